@@ -1,7 +1,8 @@
 -- Texts that are read piece by piece, and rounds that are added one by one.
-use Rattle.std.proofs.Common.{◌≡◌, ℕ, ◌+◌, List, [], ◌++◌, refl, add-one, append_assoc}
-use Rattle.std.specs.Prelude.{Result, Ok, Err}
+use Rattle.std.proofs.Common.{◌≡◌, ℕ, ◌+◌, ◌<◌, List, [], ◌++◌, refl, sym, ◌∙◌, arith, add-one, append_assoc}
+use Rattle.std.specs.Prelude.{Result, Ok, Err, Some}
 use Rattle.brd_board.specs.declared.event.Event.{Event}
+use Rattle.brd_explore.specs.declared.shard.Shard.{Shard}
 use Rattle.brd_search.specs.Plans.{times}
 
 -- what is given behind elements that are there
@@ -24,3 +25,11 @@ round_more old items new piece round n so_far more is =
     let t : times (n + 1) round ≡ times n round ++ round = times_more n round in
     let e : (old ++ times n round) ++ round ≡ old ++ (times n round ++ round) = append_assoc old (times n round) round in
     cc
+
+-- one shard of one is the same as any
+pub one_shard : (whole shard : Shard) → ◌≡◌ (Some (record { number = 0; of = 1 })) (Some whole) → shard.of ≡ 1 → shard.number < 1 →
+    whole ≡ shard
+one_shard whole shard is of below =
+    let same : ◌≡◌ {A = Shard} (record { number = 0; of = 1 }) whole = cc in
+    let number : 0 ≡ shard.number = omega (arith, below) in
+    sym same ∙ (λ i. record { number = number i; of = sym of i })

@@ -3,7 +3,7 @@ use Rattle.std.specs.Prelude.{◌≡◌, ℕ, zero, suc, ◌+◌, ◌-◌, ◌<�
 use Rattle.std.specs.Prelude.{◌||◌, if◌then◌else◌, List, [], ◌∷◌, ◌++◌, length, Option, None, Some, is_some}
 use Rattle.std.specs.Prelude.{option_map, Result, Ok, Err}
 use Rattle.std.specs.Borrow.{Bor}
-use Rattle.std.specs.List.{position_or_len, before_first, after_first}
+use Rattle.std.specs.List.{list_any, position_or_len, before_first, after_first}
 use Rattle.brd_text.specs.Bytes.{is_digit}
 use Rattle.brd_text.specs.Faults.{◌>>=◌, or_fault}
 use Rattle.brd_text.specs.Numbers.{number_of, plain_decimal_of}
@@ -12,6 +12,8 @@ use Rattle.brd_mem.specs.Image.{symbol_value}
 use Rattle.brd_mem.specs.declared.image.Symbol.{Symbol}
 use Rattle.brd_board.specs.declared.event.Event.{Event}
 use Rattle.brd_board.specs.declared.event.Event.TheVariants.{Step, Tick, Raise}
+use Rattle.brd_board.specs.Board.{BoardState}
+use Rattle.brd_explore.specs.Schedules.{does}
 use Rattle.brd_explore.specs.declared.bounds.Bounds.{Bounds}
 use Rattle.brd_explore.specs.declared.shard.Shard as part
 use Rattle.brd_explore.specs.declared.wanted.Failure.{Failure}
@@ -19,8 +21,9 @@ use Rattle.brd_explore.specs.declared.wanted.Failure.TheVariants as failure
 use Rattle.brd_explore.specs.declared.wanted.Wanted.{Wanted}
 use Rattle.brd_search.specs.Escapes.{bytes_of}
 use Rattle.brd_search.specs.declared.fault.SearchFault.{SearchFault}
-use Rattle.brd_search.specs.declared.fault.SearchFault.TheVariants.{NoMemory, Events, Fair, Remember, Lines, NoLines}
-use Rattle.brd_search.specs.declared.fault.SearchFault.TheVariants.{Word, NoSymbol, Console, Shard}
+use Rattle.brd_search.specs.declared.fault.SearchFault.TheVariants.{NoMemory, Events, Fair, Remember, Lines, NoLines, Twice, NoHandler}
+use Rattle.brd_search.specs.declared.fault.SearchFault.TheVariants.{Word, NoSymbol, Console, Shard, Raises as BadRaises}
+use Rattle.brd_search.specs.declared.raises.Raises.{Raises}
 use Rattle.brd_search.specs.declared.options.Looks.{Looks}
 use Rattle.brd_search.specs.declared.options.SearchOptions.{SearchOptions}
 use Rattle.brd_search.specs.declared.plan.Plan.{Plan}
@@ -66,15 +69,73 @@ abbrev pub raises_in : Option (List ℕ) → Result (List Event) SearchFault
 raises_in None = Err NoLines
 raises_in (Some text) = each_of raise_of (pieces_of text)
 
+-- no line is named where no raise is allowed
+abbrev pub no_raises : Option (List ℕ) → Result (List Event) SearchFault
+no_raises None = Ok []
+no_raises (Some text) = Err NoLines
+
 -- a raise of each line that `--lines` names, where raises are allowed
 abbrev pub raises_of : ℕ → Option (List ℕ) → Result (List Event) SearchFault
-raises_of most lines = if most == 0 then Ok [] else raises_in lines
+raises_of most lines = if most == 0 then no_raises lines else raises_in lines
+
+-- the number behind the second point of F..R
+abbrev pub behind_point : List ℕ → Option ℕ
+behind_point [] = None
+behind_point (b ∷ bs) = if b == 46 then plain_decimal_of bs 4294967295 else None
+
+-- R: as many before rest is an end as at most
+abbrev pub raises_each : Option ℕ → Option Raises
+raises_each None = None
+raises_each (Some most) = Some (record { most = most; owed = most })
+
+-- F..R, where F is at most R
+abbrev pub raises_at : Option ℕ → Option ℕ → Option Raises
+raises_at None most = None
+raises_at (Some owed) None = None
+raises_at (Some owed) (Some most) = if nat_lt most owed then None else Some (record { most = most; owed = owed })
+
+abbrev pub raises_by : List ℕ → Option (List ℕ × List ℕ) → Option Raises
+raises_by text None = raises_each (plain_decimal_of text 4294967295)
+raises_by text (Some parts) = raises_at (plain_decimal_of parts.0 4294967295) (behind_point parts.1)
+
+-- the raises that `--raises` says by R or F..R, plain decimals up to 4,294,967,295; none where it isn't given
+abbrev pub raises_said : Option (List ℕ) → Option Raises
+raises_said None = Some (record { most = 0; owed = 0 })
+raises_said (Some text) = raises_by text (parts_of 46 text)
 
 -- the events that may come: a step of each processor, a tick and raises where they are allowed
-pub record MayCome (options : SearchOptions) (cpus : ℕ) (among : List Event) : Type 0 where
+pub record MayCome (options : SearchOptions) (most cpus : ℕ) (among : List Event) : Type 0 where
   pub raises : List Event
-  pub are_raises : raises_of options.sizes.raises (text_of options.lines) ≡ Ok raises
+  pub are_raises : raises_of most (text_of options.lines) ≡ Ok raises
   pub all : among ≡ steps_of cpus ++ ticks_of options.sizes.ticks ++ raises
+
+-- the events that the options of raises allow, beside steps and ticks
+pub record HasLines (options : SearchOptions) (cpus : ℕ) (said : Raises) (among : List Event) : Type 0 where
+  pub raises : raises_said (text_of options.raises) ≡ Some said
+  pub all : MayCome options said.most cpus among
+
+-- an event raises a line
+abbrev pub raises_line : ℕ → Event → Bool
+raises_line line (Step cpu) = false
+raises_line line Tick = false
+raises_line line (Raise other) = other == line
+
+-- an event raises a line that one of some others raises, too
+abbrev pub is_again : Event → List Event → Bool
+is_again (Step cpu) events = false
+is_again Tick events = false
+is_again (Raise line) events = list_any (raises_line line) events
+
+-- two of the events raise the same line
+abbrev pub is_twice : List Event → Bool
+is_twice [] = false
+is_twice (event ∷ events) = is_again event events || is_twice events
+
+-- an event raises a line that has no handler on a board: it does nothing there
+abbrev pub is_idle : BoardState → Event → Bool
+is_idle b (Step cpu) = false
+is_idle b Tick = false
+is_idle b (Raise line) = not (does b (Raise line))
 
 -- n times the same events
 unfoldable pub times : ℕ → List Event → List Event
@@ -199,43 +260,86 @@ KeepsFromWanting looks fair symbols _ = ⊥
 
 -- ---- the plan
 
--- the bounds that options ask for
-abbrev pub bounds_of : SearchOptions → Bounds
-bounds_of options = record {
+-- the bounds that options ask for, which say these raises
+abbrev pub bounds_of : SearchOptions → Raises → Bounds
+bounds_of options said = record {
   events = options.sizes.events;
   preemptions = options.sizes.preemptions;
   ticks = options.sizes.ticks;
-  raises = options.sizes.raises;
+  raises = said.most;
+  owed = said.owed;
 }
 
--- A plan is what options ask for, on a board of so many processors whose image has these symbols.
-pub record IsPlan (options : SearchOptions) (cpus : ℕ) (symbols : List Symbol) (plan : Plan) : Type 0 where
-  pub most_events : options.sizes.events ≤ 1000000
-  pub most_remembered : options.remember ≤ 4096
-  pub bounds : plan.bounds ≡ bounds_of options
-  pub among : MayCome options cpus plan.among
-  pub wanted : IsWanted options.looks options.sizes.fair cpus symbols plan.wanted
-  pub shard : shard_of (text_of options.shard) ≡ Some plan.shard
-  pub is_one : plan.shard.number < plan.shard.of
-  pub shortest : plan.shortest ≡ options.shortest
-  pub remember : plan.remember ≡ options.remember
+-- A plan is what options ask for, on a board of so many processors whose image has these symbols. Each line that may be
+-- raised has a handler there, and is named once.
+pub record IsPlan (options : SearchOptions) (b : BoardState) (cpus : ℕ) (symbols : List Symbol) (plan : Plan) : Type 0
+  where
+    pub most_events : options.sizes.events ≤ 1000000
+    pub most_remembered : options.remember ≤ 4096
+    pub said : Raises
+    pub bounds : plan.bounds ≡ bounds_of options said
+    pub among : HasLines options cpus said plan.among
+    pub once : is_twice plan.among ≡ false
+    pub handled : list_any (is_idle b) plan.among ≡ false
+    pub wanted : IsWanted options.looks options.sizes.fair cpus symbols plan.wanted
+    pub shard : shard_of (text_of options.shard) ≡ Some plan.shard
+    pub is_one : plan.shard.number < plan.shard.of
+    pub shortest : plan.shortest ≡ options.shortest
+    pub remember : plan.remember ≡ options.remember
+
+-- The lines of `--lines` aren't those of the raises, for this reason.
+pub record HaveNoLines (options : SearchOptions) (fault : SearchFault) : Type 0 where
+  pub said : Raises
+  pub raises : raises_said (text_of options.raises) ≡ Some said
+  pub fails : raises_of said.most (text_of options.lines) ≡ Err fault
+
+-- Two of the events that the options allow raise the same line, or one of them a line without a handler.
+pub record IsUnfit (options : SearchOptions) (cpus : ℕ) (is : List Event → Bool) : Type 0 where
+  pub said : Raises
+  pub among : List Event
+  pub lines : HasLines options cpus said among
+  pub so : is among ≡ true
 
 -- what is wrong with options, or that memory ran out
-abbrev pub KeepsFromPlanning : SearchOptions → List Symbol → SearchFault → Type 0
-KeepsFromPlanning options symbols Events = 1000000 < options.sizes.events
-KeepsFromPlanning options symbols Remember = 4096 < options.remember
-KeepsFromPlanning options symbols Lines = raises_of options.sizes.raises (text_of options.lines) ≡ Err Lines
-KeepsFromPlanning options symbols NoLines = raises_of options.sizes.raises (text_of options.lines) ≡ Err NoLines
-KeepsFromPlanning options symbols Shard = shard_of (text_of options.shard) ≡ None
-KeepsFromPlanning options symbols fault = KeepsFromWanting options.looks options.sizes.fair symbols fault
+abbrev pub KeepsFromPlanning : SearchOptions → BoardState → ℕ → List Symbol → SearchFault → Type 0
+KeepsFromPlanning options b cpus symbols Events = 1000000 < options.sizes.events
+KeepsFromPlanning options b cpus symbols Remember = 4096 < options.remember
+KeepsFromPlanning options b cpus symbols BadRaises = raises_said (text_of options.raises) ≡ None
+KeepsFromPlanning options b cpus symbols Lines = HaveNoLines options Lines
+KeepsFromPlanning options b cpus symbols NoLines = HaveNoLines options NoLines
+KeepsFromPlanning options b cpus symbols Twice = IsUnfit options cpus is_twice
+KeepsFromPlanning options b cpus symbols NoHandler = IsUnfit options cpus (list_any (is_idle b))
+KeepsFromPlanning options b cpus symbols Shard = shard_of (text_of options.shard) ≡ None
+KeepsFromPlanning options b cpus symbols fault = KeepsFromWanting options.looks options.sizes.fair symbols fault
 
 -- Only private contracts name the next ones.
 
 -- the bounds that options give, whose numbers are within limits
-pub record IsSized (options : SearchOptions) (bounds : Bounds) : Type 0 where
+pub record IsSized (options : SearchOptions) (said : Raises) (bounds : Bounds) : Type 0 where
   pub most_events : options.sizes.events ≤ 1000000
   pub most_remembered : options.remember ≤ 4096
-  pub is : bounds ≡ bounds_of options
+  pub is : bounds ≡ bounds_of options said
+
+-- the raises that a text says
+abbrev pub AreRaises : Option (List ℕ) → Raises → Type 0
+AreRaises text said = raises_said text ≡ Some said
+
+-- Events raise each line once, and each has a handler.
+pub record AreFit (b : BoardState) (among : List Event) : Type 0 where
+  pub once : is_twice among ≡ false
+  pub handled : list_any (is_idle b) among ≡ false
+
+-- they don't
+abbrev pub AreUnfit : BoardState → List Event → SearchFault → Type 0
+AreUnfit b among NoMemory = Unit {0}
+AreUnfit b among Twice = is_twice among ≡ true
+AreUnfit b among NoHandler = list_any (is_idle b) among ≡ true
+AreUnfit b among _ = ⊥
+
+-- a text says no raises
+abbrev pub AreNoRaises : Option (List ℕ) → SearchFault → Type 0
+AreNoRaises text BadRaises = raises_said text ≡ None
+AreNoRaises text _ = ⊥
 
 -- a number is above its limit
 abbrev pub IsOfSizes : SearchOptions → SearchFault → Type 0

@@ -9,12 +9,14 @@ use Rattle.brd_explore.specs.Shards.{NoneFailsInShard}
 use Rattle.brd_search.specs.declared.plan.Plan.{Plan}
 use Rattle.brd_search.specs.declared.searching.Searched.{Searched}
 
--- bounds leave no more than others: as many ticks and raises, and not more events and preemptions
+-- bounds leave no more than others: as many ticks and raises, of which as many are owed, and not more events and
+-- preemptions
 pub record AreNotMore (few many : Bounds) : Type 0 where
   pub events : few.events ≤ many.events
   pub preemptions : few.preemptions ≤ many.preemptions
   pub ticks : few.ticks ≡ many.ticks
   pub raises : few.raises ≡ many.raises
+  pub owed : few.owed ≡ many.owed
 
 -- no schedule of the plan's shard within bounds fails
 abbrev pub NoneWithin : Plan → BoardState → Bounds → Type 0
@@ -31,26 +33,26 @@ abbrev pub Answers : Plan → BoardState → Bounds → Option (List Event) → 
 Answers plan b bounds (Some events) = FailsWithin plan b bounds events
 Answers plan b bounds None = (bounds ≡ plan.bounds) × NoneWithin plan b plan.bounds
 
--- With fewer preemptions than these bounds leave, and else within the plan's, no schedule of the shard fails.
-abbrev pub IsFewest : Plan → BoardState → Bounds → Type 0
-IsFewest plan b bounds = (preemptions : ℕ) → preemptions < bounds.preemptions →
+-- None fails with fewer preemptions than the bounds leave of a schedule that was found, and else within the plan's.
+abbrev pub IsFewest : Plan → BoardState → Bounds → Option (List Event) → Type 0
+IsFewest plan b bounds (Some events) = (preemptions : ℕ) → preemptions < bounds.preemptions →
     NoneWithin plan b (record plan.bounds { preemptions = preemptions })
+IsFewest plan b bounds None = Unit {0}
 
--- bounds with one event fewer than a schedule has, and than they have themselves
-abbrev pub shorter : Bounds → List Event → Bounds
-shorter bounds events = record bounds { events = min (length events) bounds.events - 1 }
+-- the plan's bounds, with one event fewer than a schedule has that was found, and than the bounds of it
+abbrev pub shorter : Plan → Bounds → List Event → Bounds
+shorter plan bounds events = record plan.bounds { events = min (length events) bounds.events - 1 }
 
--- A schedule is as short as it can be with so many preemptions: it has no event, or none of the shard with fewer
--- events, and no more preemptions, fails.
+-- A schedule is as short as any within the plan's bounds: it has no event, or none of the shard with fewer fails.
 abbrev pub IsShortest : Plan → BoardState → Bounds → Option (List Event) → Type 0
 IsShortest plan b bounds (Some events) =
-    (min (length events) bounds.events ≡ 0) ⊎ NoneWithin plan b (shorter bounds events)
+    (min (length events) bounds.events ≡ 0) ⊎ NoneWithin plan b (shorter plan bounds events)
 IsShortest plan b bounds None = Unit {0}
 
 -- the bounds of a schedule with fewer events than one that was found, which has some
-abbrev pub IsFewer : Bounds → Option (List Event) → Bounds → Type 0
-IsFewer bounds (Some events) few = (few ≡ shorter bounds events) × (few.events < bounds.events)
-IsFewer bounds None few = ⊥
+abbrev pub IsFewer : Plan → Bounds → Option (List Event) → Bounds → Type 0
+IsFewer plan bounds (Some events) few = (few ≡ shorter plan bounds events) × (few.events < bounds.events)
+IsFewer plan bounds None few = ⊥
 
 -- nothing was found, or no event is left
 abbrev pub IsLeast : Bounds → Option (List Event) → Type 0

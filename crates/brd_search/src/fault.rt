@@ -23,9 +23,18 @@ pub enum SearchFault {
     /// The lines aren't numbers of interrupt lines.
     #[error("--lines has interrupt lines from 0 to 31 with commas between them, as 3,4")]
     Lines,
-    /// Raises are allowed, and no line is named.
+    /// Raises are allowed, and no line is named; or a line is named, and no raise is allowed.
     #[error("--raises says how often lines may be raised, and --lines which")]
     NoLines,
+    /// Raises aren't told as they should be.
+    #[error("--raises is R or F..R: lines are raised R times at most, and F times before rest is an end, R times if left out")]
+    Raises,
+    /// A line is named twice.
+    #[error("--lines names a line twice")]
+    Twice,
+    /// A line that is named has no handler.
+    #[error("--lines names a line without a handler")]
+    NoHandler,
     /// A word isn't as it should be.
     #[error("--word has what words should be, as count=2 (at the end) or inside=0..1 (always), with commas between them; a \
          place is a symbol, or 0x and a hexadecimal address")]
@@ -39,6 +48,9 @@ pub enum SearchFault {
     /// A journal that is made shorter has more events than it may have.
     #[error("the journal has more than 1,000,000 events")]
     Journal,
+    /// A journal would be written over an input.
+    #[error("--out names the object file or the configuration")]
+    OverInput,
     /// A shard isn't one of its number.
     #[error("--shard is K/M, shard K of M, with K from 1 to M")]
     Shard,

@@ -9,8 +9,6 @@ pub struct Sizes {
     pub preemptions: u32,
     /// How many ticks.
     pub ticks: u32,
-    /// How many raises of interrupt lines.
-    pub raises: u32,
     /// How many rounds the fair end has.
     pub fair: u32,
 }
@@ -36,6 +34,8 @@ pub struct Looks<'a> {
 pub struct SearchOptions<'a> {
     /// How large it is.
     pub sizes: Sizes,
+    /// How often interrupt lines may be raised, as `R`, and how often before a board at rest is an end, as `F..R`.
+    pub raises: Option<&'a str>,
     /// Which interrupt lines may be raised, with commas between them.
     pub lines: Option<&'a str>,
     /// What is looked for. Nothing: exceptions and deadlocks.

@@ -3,12 +3,13 @@
 ghost use Rattle.std.specs.Prelude.{MatchResult};
 ghost use Rattle.brd_search.specs.Plans.{IsPlan, KeepsFromPlanning, IsSized, IsOfSizes, IsShard, IsNoShard, text_of};
 
-use crate::coming::may_come;
+use crate::coming::{check_lines, may_come};
 use crate::fault::SearchFault;
 use crate::options::{SearchOptions, Sizes};
+use crate::raises::{Raises, raises_of};
 use crate::wanting::wanted_of;
 use brd_base::List;
-use brd_board::Event;
+use brd_board::{Board, Event};
 use brd_explore::{Bounds, Shard, Wanted};
 use brd_mem::Symbol;
 use brd_text::{parted, plain_decimal};
@@ -53,7 +54,7 @@ impl Drop for Plan {
     }
 }
 
-/// The search that options ask for, of a board of so many processors whose image has these symbols.
+/// The search that options ask for, of this board, which has so many processors, and whose image has these symbols.
 ///
 /// # Errors
 ///
@@ -61,14 +62,18 @@ impl Drop for Plan {
 pub fn plan_of(
     alloc: Global,
     options: &SearchOptions<'_>,
+    board: &Board,
     cpus: u8,
     symbols: &[Symbol],
 ) -> Result<Plan, SearchFault>
-    ensures { MatchResult result (IsPlan options.now cpus symbols.now) (KeepsFromPlanning options.now symbols.now) }
+    ensures { MatchResult result (IsPlan options.now board.now cpus symbols.now)
+        (KeepsFromPlanning options.now board.now cpus symbols.now) }
 {
-    let bounds = bounds_of(options)?;
+    let raises = raises_of(options.raises)?;
+    let bounds = bounds_of(options, raises)?;
     let shard = shard_of(options.shard)?;
-    let among = may_come(alloc, options, cpus)?;
+    let among = may_come(alloc, options, raises.most, cpus)?;
+    check_lines(board, among.as_slice())?;
     let wanted = wanted_of(alloc, &options.looks, options.sizes.fair, cpus, symbols)?;
     Ok(Plan {
         bounds,
@@ -80,15 +85,15 @@ pub fn plan_of(
     })
 }
 
-/// The bounds that options give. They ask neither for too many events nor for too much that is remembered.
-fn bounds_of(options: &SearchOptions<'_>) -> Result<Bounds, SearchFault>
-    ensures { MatchResult result (IsSized options.now) (IsOfSizes options.now) }
+/// The bounds that options give, with these raises. They ask neither for too many events nor for too much that is
+/// remembered.
+fn bounds_of(options: &SearchOptions<'_>, raises: Raises) -> Result<Bounds, SearchFault>
+    ensures { MatchResult result (IsSized options.now raises) (IsOfSizes options.now) }
 {
     let Sizes {
         events,
         preemptions,
         ticks,
-        raises,
         fair: _,
     } = options.sizes;
     if events > MOST_EVENTS {
@@ -101,7 +106,8 @@ fn bounds_of(options: &SearchOptions<'_>) -> Result<Bounds, SearchFault>
         events,
         preemptions,
         ticks,
-        raises,
+        raises: raises.most,
+        owed: raises.owed,
     })
 }
 

@@ -1,6 +1,6 @@
 //! The search itself: with few preemptions first, and then shorter.
 
-ghost use Rattle.std.specs.Prelude.{option_map, ◌≡◌, ◌<◌, true, IfOk, IfSome, IfNone};
+ghost use Rattle.std.specs.Prelude.{option_map, ◌≡◌, ◌<◌, true, false, IfOk, IfSome, IfNone};
 ghost use Rattle.brd_search.specs.Searches.{Answers, IsFewer, IsFewest, IsLeast, IsShortest};
 ghost use Rattle.brd_explore.specs.Schedules.{start};
 ghost use Rattle.brd_explore.specs.Shards.{AnswersInShard};
@@ -8,7 +8,7 @@ ghost use Rattle.brd_explore.specs.Shards.{AnswersInShard};
 use crate::plan::Plan;
 use brd_base::NoMemory;
 use brd_board::{Board, Event};
-use brd_explore::{Bounds, Found, Watch, find_in_shard};
+use brd_explore::{Bounds, Counts, Found, Watch, find_in_shard};
 use std::alloc::Global;
 
 /// What a search came to.
@@ -18,12 +18,12 @@ pub struct Searched {
     pub schedule: Option<Vec<Event>>,
     /// The bounds within which it was found; those of the whole search where none was.
     pub bounds: Bounds,
-    /// How many schedules have come to their end: all of those within the bounds where none was found.
-    pub tried: u64,
+    /// The schedules that were searched: all of those within the bounds if none was found.
+    pub counts: Counts,
 }
 
 /// Searches the schedules of a board for one that fails: those without preemptions first, then those with one, and so
-/// on; and then, where that is asked for, for one with fewer events, until there is none.
+/// on; and then, if that is asked for, for one with fewer events, until there is none.
 pub fn search<W: Watch>(
     alloc: Global,
     board: &Board,
@@ -36,7 +36,9 @@ pub fn search<W: Watch>(
     ensures short { plan.now.shortest ≡ true →
         IfOk result
         (λ found. IsShortest plan.now board.now found.bounds (option_map (λ events. events.items) found.schedule)) }
-    ensures fewest { IfOk result (λ found. IsFewest plan.now board.now found.bounds) }
+    ensures fewest { plan.now.shortest ≡ false →
+        IfOk result
+        (λ found. IsFewest plan.now board.now found.bounds (option_map (λ events. events.items) found.schedule)) }
 {
     let searched = with_fewest(alloc, board, plan, watch)?;
     if plan.shortest {
@@ -55,7 +57,8 @@ fn with_fewest<W: Watch>(
     requires { 0 < plan.now.shard.of }
     ensures is { IfOk result
         (λ found. Answers plan.now board.now found.bounds (option_map (λ events. events.items) found.schedule)) }
-    ensures fewest { IfOk result (λ found. IsFewest plan.now board.now found.bounds) }
+    ensures fewest { IfOk result
+        (λ found. IsFewest plan.now board.now found.bounds (option_map (λ events. events.items) found.schedule)) }
 {
     for preemptions in 0..plan.bounds.preemptions {
         let bounds = Bounds {
@@ -65,6 +68,13 @@ fn with_fewest<W: Watch>(
         let searched = within(alloc, board, plan, bounds, watch)?;
         if searched.schedule.is_some() {
             return Ok(searched);
+        }
+        // More preemptions make no difference then.
+        if searched.counts.spare > 0 {
+            let whole = within(alloc, board, plan, plan.bounds, watch)?;
+            if whole.schedule.is_none() {
+                return Ok(whole);
+            }
         }
     }
     within(alloc, board, plan, plan.bounds, watch)
@@ -85,7 +95,7 @@ fn within<W: Watch>(
         (option_map (λ events. events.items) found.schedule)) }
     ensures bounds { IfOk result (λ found. found.bounds ≡ bounds) }
 {
-    let Found { schedule, tried } = find_in_shard(
+    let Found { schedule, counts } = find_in_shard(
         alloc,
         board,
         bounds,
@@ -98,7 +108,7 @@ fn within<W: Watch>(
     Ok(Searched {
         schedule,
         bounds,
-        tried,
+        counts,
     })
 }
 
@@ -143,15 +153,13 @@ fn shortest<W: Watch>(
 ) -> Result<Searched, NoMemory>
     requires of { 0 < plan.now.shard.of }
     requires is { Answers plan.now board.now found.bounds (option_map (λ events. events.items) found.schedule) }
-    requires fewest { IsFewest plan.now board.now found.bounds }
     ensures is { IfOk result
         (λ found. Answers plan.now board.now found.bounds (option_map (λ events. events.items) found.schedule)) }
     ensures short { IfOk result
         (λ found. IsShortest plan.now board.now found.bounds (option_map (λ events. events.items) found.schedule)) }
-    ensures fewest { IfOk result (λ found. IsFewest plan.now board.now found.bounds) }
 {
     let mut best = found;
-    while let Some(bounds) = fewer(&best) {
+    while let Some(bounds) = fewer(plan, &best) {
         let searched = within(alloc, board, plan, bounds, watch)?;
         if searched.schedule.is_none() {
             return Ok(best);
@@ -162,9 +170,9 @@ fn shortest<W: Watch>(
 }
 
 /// The bounds of a schedule with fewer events than the one that was found.
-fn fewer(found: &Searched) -> Option<Bounds>
+fn fewer(plan: &Plan, found: &Searched) -> Option<Bounds>
     ensures some { IfSome result
-        (λ bounds. IsFewer found.now.bounds (option_map (λ events. events.items) found.now.schedule) bounds) }
+        (λ bounds. IsFewer plan.now found.now.bounds (option_map (λ events. events.items) found.now.schedule) bounds) }
     ensures none { IfNone result (IsLeast found.now.bounds (option_map (λ events. events.items) found.now.schedule)) }
 {
     let len = found.schedule.as_ref()?.len();
@@ -176,6 +184,6 @@ fn fewer(found: &Searched) -> Option<Bounds>
     }
     Some(Bounds {
         events: most - 1,
-        ..found.bounds
+        ..plan.bounds
     })
 }

@@ -2,16 +2,15 @@
 
 ghost use Rattle.std.specs.Prelude.{◌≡◌, ◌++◌, IfOk, OnOk};
 ghost use Rattle.brd_board.specs.Board.{after};
-ghost use Rattle.brd_explore.specs.Failures.{fails_now};
-ghost use Rattle.brd_search.specs.Shown.{fair_end, shown};
+ghost use Rattle.brd_search.specs.Shown.{fair_end, shown, stops};
 
 use brd_base::NoMemory;
 use brd_board::{Board, Event};
-use brd_explore::Wanted;
+use brd_explore::{Wanted, is_at_rest};
 use std::alloc::Global;
 
-/// The events after which a board shows what fails: these, or where the board after them shows nothing, these and the
-/// fair end.
+/// The events after which a board shows what fails: these, or if the board after them shows nothing and isn't at rest,
+/// these and the fair end.
 #[tactic(auto, unfolding(crate::specs::Shown::shown))]
 pub fn shown_events(
     alloc: Global,
@@ -22,19 +21,22 @@ pub fn shown_events(
     ensures { IfOk result (λ all. all.items ≡ shown wanted.now board.now events.now) }
 {
     let mut all = Vec::from_slice(alloc, events)?;
-    if !shows_now(wanted, board, events)? {
+    if !stops(wanted, board, events)? {
         add_fair_end(&mut all, wanted)?;
     }
     Ok(all)
 }
 
-/// Whether the board after events shows what fails.
-pub(crate) fn shows_now(wanted: &Wanted, board: &Board, events: &[Event]) -> Result<bool, NoMemory>
-    ensures { IfOk result (λ shows. shows ≡ fails_now wanted.now (after board.now events.now)) }
+/// Whether the board after events shows what fails, or is at rest.
+pub(crate) fn stops(wanted: &Wanted, board: &Board, events: &[Event]) -> Result<bool, NoMemory>
+    ensures { IfOk result (λ it. it ≡ stops wanted.now (after board.now events.now)) }
 {
     let mut copy = board.try_copy()?;
     copy.play(events);
-    wanted.fails_now(&copy)
+    if wanted.fails_now(&copy)? {
+        return Ok(true);
+    }
+    is_at_rest(&copy)
 }
 
 /// Adds the events of the fair end.

@@ -1,10 +1,11 @@
-//! What is told of a search: what fails, the few switches that matter, and within which bounds nothing fails.
+//! What is told of a search: what fails, the few switches that matter; or within which bounds nothing fails, what was
+//! looked for, and how many schedules came to an end.
 
 use crate::plan::Plan;
-use crate::shown::shows_now;
+use crate::shown::stops;
 use brd_base::NoMemory;
 use brd_board::{Board, Event};
-use brd_explore::{Bounds, Failure, Wanted};
+use brd_explore::{Bounds, Counts, Failure, Wanted};
 use brd_isa::decode;
 use brd_listing::{write_instruction, write_place};
 use brd_mem::Symbol;
@@ -43,12 +44,24 @@ fn put_bounds(alloc: Global, out: &mut Vec<u8>, bounds: Bounds) -> Result<(), No
     put(out, ", ")?;
     put_count(alloc, out, u64::from(bounds.ticks), "tick")?;
     put(out, " and ")?;
-    put_count(alloc, out, u64::from(bounds.raises), "raise")
+    put_count(alloc, out, u64::from(bounds.raises), "raise")?;
+    if bounds.raises == 0 {
+        return Ok(());
+    }
+    put(out, "; rest is an end after ")?;
+    put_count(alloc, out, u64::from(bounds.owed), "raise")
 }
 
-/// Puts at the end of how many schedules none fails, and within which bounds, as what follows "none of ".
-pub fn put_none(alloc: Global, plan: &Plan, tried: u64, out: &mut Vec<u8>) -> Result<(), NoMemory> {
-    put_count(alloc, out, tried, "schedule")?;
+/// Puts at the end of how many schedules none fails, and within which bounds, as what follows "none of "; and below that
+/// what was looked for, and how many of the schedules came to an end.
+pub fn put_none(
+    alloc: Global,
+    symbols: &[Symbol],
+    plan: &Plan,
+    counts: Counts,
+    out: &mut Vec<u8>,
+) -> Result<(), NoMemory> {
+    put_count(alloc, out, counts.tried, "schedule")?;
     put(out, " fails: at most ")?;
     put_bounds(alloc, out, plan.bounds)?;
     if plan.shard.of > 1 {
@@ -57,7 +70,134 @@ pub fn put_none(alloc: Global, plan: &Plan, tried: u64, out: &mut Vec<u8>) -> Re
         put(out, " of ")?;
         put_number(alloc, out, u64::from(plan.shard.of))?;
     }
+    put(out, "\n")?;
+    put_looked_for(alloc, symbols, &plan.wanted, out)?;
+    put_ends(alloc, plan, counts, out)
+}
+
+/// Puts at the end a line of what is looked for.
+fn put_looked_for(
+    alloc: Global,
+    symbols: &[Symbol],
+    wanted: &Wanted,
+    out: &mut Vec<u8>,
+) -> Result<(), NoMemory> {
+    put(out, "looked for: ")?;
+    let mut others = false;
+    for failure in wanted.failures.as_slice() {
+        if others {
+            put(out, ", ")?;
+        }
+        put_kind(alloc, symbols, failure, out)?;
+        others = true;
+    }
     put(out, "\n")
+}
+
+/// Puts at the end which boards fail by a failure.
+fn put_kind(
+    alloc: Global,
+    symbols: &[Symbol],
+    failure: &Failure,
+    out: &mut Vec<u8>,
+) -> Result<(), NoMemory> {
+    match failure {
+        Failure::Exception => put(out, "an exception"),
+        Failure::Deadlock => put(out, "a deadlock"),
+        Failure::On => put(out, "a board that is on at the end"),
+        Failure::Console(text) => {
+            put(out, "a console that isn't ")?;
+            put_quoted(text.as_slice(), out)
+        }
+        Failure::Word { address, value } => {
+            write_place(symbols, *address, out)?;
+            put(out, " that isn't ")?;
+            put_number(alloc, out, u64::from(*value))?;
+            put(out, " at the end")
+        }
+        Failure::Outside {
+            address,
+            least,
+            most,
+        } => {
+            write_place(symbols, *address, out)?;
+            put(out, " that isn't ")?;
+            put_range(alloc, *least, *most, out)
+        }
+    }
+}
+
+/// Puts at the end a line of how many schedules came to an end, and how many were cut short by what; and if none came to
+/// an end, and none went on to a fair end, a line that says so.
+fn put_ends(alloc: Global, plan: &Plan, counts: Counts, out: &mut Vec<u8>) -> Result<(), NoMemory> {
+    put_number(alloc, out, counts.ended)?;
+    put(out, " came to an end")?;
+    put_cut(alloc, counts.out_of_events, "--events", out)?;
+    put_cut(alloc, counts.out_of_ticks, "--ticks", out)?;
+    if counts.tried == counts.ended {
+        return put(out, ", none was cut short\n");
+    }
+    if plan.wanted.rounds > 0 && plan.bounds.owed == 0 {
+        return put(out, ", and went on to the fair end\n");
+    }
+    put(out, "\n")?;
+    if counts.ended == 0 {
+        return put(out, NO_END);
+    }
+    Ok(())
+}
+
+/// What is said where no schedule came to an end.
+const NO_END: &str =
+    "warning: none came to an end, so nothing that should be so at the end was looked at; more --events or --ticks may \
+     help, or --fair\n";
+
+/// Puts at the end how many schedules were cut short by a bound, if any were.
+fn put_cut(alloc: Global, number: u64, bound: &str, out: &mut Vec<u8>) -> Result<(), NoMemory> {
+    if number == 0 {
+        return Ok(());
+    }
+    put(out, ", ")?;
+    put_number(alloc, out, number)?;
+    put(out, if number == 1 { " was" } else { " were" })?;
+    put(out, " cut short by ")?;
+    put(out, bound)
+}
+
+/// Puts a range at the end.
+fn put_range(alloc: Global, least: u32, most: u32, out: &mut Vec<u8>) -> Result<(), NoMemory> {
+    put_number(alloc, out, u64::from(least))?;
+    put(out, "..")?;
+    put_number(alloc, out, u64::from(most))
+}
+
+/// Puts bytes at the end, between quotation marks: printable ASCII as it is, others as `--console` takes them.
+fn put_quoted(bytes: &[u8], out: &mut Vec<u8>) -> Result<(), NoMemory> {
+    out.push(b'"')?;
+    for byte in bytes {
+        put_byte(*byte, out)?;
+    }
+    out.push(b'"')?;
+    Ok(())
+}
+
+/// Puts a byte at the end as `--console` takes it.
+fn put_byte(byte: u8, out: &mut Vec<u8>) -> Result<(), NoMemory> {
+    match byte {
+        b'\n' => put(out, "\\n"),
+        b'\r' => put(out, "\\r"),
+        b'\t' => put(out, "\\t"),
+        b'\\' => put(out, "\\\\"),
+        b' '..=b'~' => {
+            out.push(byte)?;
+            Ok(())
+        }
+        _ => {
+            put(out, "\\x")?;
+            out.extend_from_slice(&hex_digits(u32::from(byte))[6..])?;
+            Ok(())
+        }
+    }
 }
 
 /// Puts at the end how many events a schedule has, whether what fails shows only at its fair end, and what fails; and
@@ -72,7 +212,7 @@ pub fn put_found(
 ) -> Result<(), NoMemory> {
     put(out, "after ")?;
     put_count(alloc, out, events.len() as u64, "event")?;
-    if wanted.rounds > 0 && !shows_now(wanted, board, events)? {
+    if wanted.rounds > 0 && !stops(wanted, board, events)? {
         put(out, " and the fair end")?;
     }
     put(out, ": ")?;
@@ -110,7 +250,12 @@ pub fn put_failure(
     match failure {
         Failure::Exception => put(out, "an exception"),
         Failure::Deadlock => put(out, "a deadlock: nobody goes on, and a task waits"),
-        Failure::Console(_) => put(out, "the console isn't the wanted text"),
+        Failure::Console(text) => {
+            put(out, "the console is ")?;
+            put_quoted(board.console(), out)?;
+            put(out, ", not ")?;
+            put_quoted(text.as_slice(), out)
+        }
         Failure::On => put(out, "the board is on at the end"),
         Failure::Word { address, value } => {
             put_word(alloc, symbols, board, *address, out)?;
@@ -124,9 +269,7 @@ pub fn put_failure(
         } => {
             put_word(alloc, symbols, board, *address, out)?;
             put(out, ", not ")?;
-            put_number(alloc, out, u64::from(*least))?;
-            put(out, "..")?;
-            put_number(alloc, out, u64::from(*most))
+            put_range(alloc, *least, *most, out)
         }
     }
 }
