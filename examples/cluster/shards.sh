@@ -16,7 +16,7 @@ prepare() {
         echo "--shard \"\$1/$shards\" --out \"found.\$1\" > \"out.\$1\" 2> \"err.\$1\""
         echo 'status=$?'
         echo 'echo $status > "status.$1"'
-        echo '[ $status != 1 ]'
+        echo '[ $status != 5 ]'
     } > "$work/search"
     chmod +x "$work/search" "$work/board"
 }
@@ -24,12 +24,12 @@ prepare() {
 # merge OUT: tells what the shards came to, with the status that `board explore` would have. A schedule fails if a shard
 # says so, and its journal is kept as OUT. None does only if all say so.
 merge() {
-    local shard status total=1 tried
+    local shard status total=1 tried ended=0
     for shard in $(seq "$shards"); do
-        if [ "$(cat "$work/status.$shard" 2> /dev/null)" = 1 ] && cp "$work/found.$shard" "$1"; then
+        if [ "$(cat "$work/status.$shard" 2> /dev/null)" = 5 ] && cp "$work/found.$shard" "$1"; then
             cat "$work/out.$shard"
             echo "board: a schedule fails: shard $shard of $shards" >&2
-            return 1
+            return 5
         fi
     done
     for shard in $(seq "$shards"); do
@@ -38,10 +38,13 @@ merge() {
         if [ "$status" != 0 ] || [ -z "$tried" ]; then
             echo "shard $shard of $shards has no answer, status ${status:-none}:" >&2
             [ ! -f "$work/err.$shard" ] || cat "$work/err.$shard" >&2
-            case $status in 2 | 3 | 4) return "$status" ;; *) return 4 ;; esac
+            case $status in 1 | 2 | 3) return "$status" ;; *) return 4 ;; esac
         fi
         # (each shard tries the first schedule, from which the others branch off)
         total=$((total + tried - 1))
+        grep -q '^0 came to an end' "$work/out.$shard" || ended=1
     done
-    sed "s/^none of [0-9]* schedules\{0,1\}/none of $total schedules/; s/, shard .*//" "$work/out.1"
+    sed -n "1s/^none of [0-9]* schedules\{0,1\}/none of $total schedules/; 1s/, shard .*//; 1,2p" "$work/out.1"
+    # (a shard's warning is one of all if no shard has a schedule that came to an end)
+    [ $ended = 1 ] || sed -n '/^warning: /p' "$work/out.1"
 }

@@ -41,7 +41,7 @@ status_of (Race fault) = 1
 status_of (Trace fault) = 2
 status_of (Schedule fault) = 2
 status_of (Search fault) = 2
-status_of Fails = 1
+status_of Fails = 5
 status_of Passes = 1
 status_of (Write error) = 4
 

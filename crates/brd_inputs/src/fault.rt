@@ -190,9 +190,9 @@ impl CommandFault {
         }
     }
 
-    /// The status that the program ends with: 1 for a fault of the input or of a race, for a search that finds what
-    /// fails, and for a journal after which nothing fails; 2 for a fault of the command line, 3 for want of memory, 4
-    /// where reading or writing failed.
+    /// The status that the program ends with: 1 for a fault of the input or of a race, and for a journal after which
+    /// nothing fails; 2 for a fault of the command line, 3 for want of memory, 4 where reading or writing failed; 5 for a
+    /// search that finds what fails.
     pub fn status(&self) -> u8
         ensures { result ≡ status_of self.now }
     {
@@ -205,7 +205,6 @@ impl CommandFault {
             | CommandFault::OtherOrder(_)
             | CommandFault::Script(_, _)
             | CommandFault::Race(_)
-            | CommandFault::Fails
             | CommandFault::Passes => 1,
             CommandFault::Argument
             | CommandFault::Trace(_)
@@ -217,6 +216,7 @@ impl CommandFault {
             | CommandFault::TooLong(_)
             | CommandFault::TooManyReads(_)
             | CommandFault::Write(_) => 4,
+            CommandFault::Fails => 5,
         }
     }
 }
