@@ -1,15 +1,25 @@
 -- A search of what was read.
-use Rattle.std.proofs.Common.{◌≡◌, ℕ, List, refl, inl, inr, subst}
-use Rattle.std.specs.Prelude.{Option, Some, None, IfSome}
+use Rattle.std.proofs.Common.{◌≡◌, ℕ, ◌≤◌, true, false, List, refl, inl, inr, subst}
+use Rattle.std.specs.Prelude.{Option, Some, None, IfSome, Result, Ok, Err, MatchResult, option_map}
 use Rattle.std.specs.Io.KnownBytes.{Appends, Keeps}
 use Rattle.std.specs.declared.io.Error.{Error}
+use Rattle.brd_board.specs.declared.event.Event.{Event}
+use Rattle.brd_explore.specs.declared.bounds.Bounds.{Bounds}
 use Rattle.brd_image.specs.declared.building.Loaded.{Loaded}
 use Rattle.brd_inputs.specs.Start.{IsLoaded, KeepsFromLoading}
 use Rattle.brd_inputs.specs.declared.fault.CommandFault.{CommandFault}
 use Rattle.brd_inputs.specs.declared.fault.CommandFault.TheVariants.{Write}
 use Rattle.brd_report.specs.Output.{AppendsFront}
+use Rattle.brd_search.specs.Plans.{IsPlan}
+use Rattle.brd_search.specs.Searches.{Answers, IsFewest, IsShortest}
+use Rattle.brd_search.specs.Shown.{shown}
 use Rattle.brd_search.specs.declared.options.SearchOptions.{SearchOptions}
-use Rattle.brd_command.specs.ExploreCommand.{Explores, IsTold, KeepsFromSearching, RefusesExploring}
+use Rattle.brd_search.specs.declared.plan.Plan.{Plan}
+use Rattle.brd_threads.specs.Processors.{processors_of}
+use Rattle.brd_command.specs.ExploreCommand.{Explores, IsTold, KeepsFromSearching, RefusesExploring, Tells}
+use Rattle.brd_command.specs.Saving.{IsOfJournal}
+use Rattle.brd_command.specs.declared.explore_command.Told.{Told}
+use Rattle.brd_command.proofs.SavingLemmas.{of_search}
 
 pub keeps : (known : Option (List ℕ)) → Keeps known known
 keeps None = tt
@@ -57,3 +67,28 @@ module _ (options : SearchOptions) where
     explored = record { loaded = loaded; loads = loads; told = told };
     written = subst (λ (x : List ℕ). Appends old new x) is written;
   }
+
+-- what is told of a schedule that was found, or why it isn't
+pub told_found : (options : SearchOptions) (loaded : Loaded) (plan : Plan) (bounds : Bounds) (events : List Event)
+    (result : Result Told CommandFault) → IsPlan options loaded.board (processors_of loaded.board) loaded.image.symbols plan
+    → processors_of loaded.board ≤ 8 → Answers plan loaded.board bounds (Some events)
+    → (plan.shortest ≡ false → IsFewest plan loaded.board bounds (Some events))
+    → (plan.shortest ≡ true → IsShortest plan loaded.board bounds (Some events))
+    → MatchResult result
+    (λ told. Tells plan loaded.board (Some events) told.text.items (option_map (λ text. text.items) told.journal))
+    (IsOfJournal (shown plan.wanted loaded.board events))
+    → MatchResult result
+    (λ told. IsTold options loaded told.text.items (option_map (λ text. text.items) told.journal))
+    (KeepsFromSearching options loaded)
+told_found options loaded plan bounds events (Ok told) planned few answers fewest short tells = record {
+  plan = plan;
+  planned = planned;
+  bounds = bounds;
+  schedule = Some events;
+  answers = answers;
+  fewest = fewest;
+  short = short;
+  tells = tells;
+}
+told_found options loaded plan bounds events (Err fault) planned few answers fewest short keeps =
+    of_search options loaded plan bounds events fault planned few answers keeps

@@ -12,6 +12,7 @@ pub mod ReplayLemmas
 pub mod RefusalLemmas
 pub mod JournalLemmas
 pub mod TurnsLemmas
+pub mod SavingLemmas
 pub mod ExploreLemmas
 pub mod ShrinkLemmas
 pub mod TryLemmas

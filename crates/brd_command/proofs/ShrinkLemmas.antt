@@ -1,6 +1,6 @@
 -- A journal that was read is made shorter.
 use Rattle.std.proofs.Common.{◌≡◌, ℕ, zero, suc, ◌+◌, List, [], ◌∷◌, ◌++◌, length, take, refl, sym, ap, ◌∙◌, inl, inr, subst}
-use Rattle.std.specs.Prelude.{Option, Some, None, IfSome, is_some, slice_get}
+use Rattle.std.specs.Prelude.{◌≤◌, true, Option, Some, None, IfSome, is_some, slice_get, Result, Ok, Err, MatchResult}
 use Rattle.std.proofs.lemmas.Bool.{true≢false}
 use Rattle.std.proofs.lemmas.List.{length-append, take_more}
 use Rattle.std.proofs.lemmas.Option.{slice_get_within, get_or_from_slice_get}
@@ -15,6 +15,17 @@ use Rattle.brd_inputs.specs.declared.start.Start.{Start}
 use Rattle.brd_report.specs.Output.{AppendsFront}
 use Rattle.brd_command.specs.ShrinkCommand.{IsShrunk, KeepsFromShrinking, RefusesShrinking, Shrinks}
 use Rattle.brd_command.specs.declared.shrink_command.ShrinkOptions.{ShrinkOptions}
+use Rattle.brd_command.specs.declared.shrink_command.Told.{Told}
+use Rattle.brd_command.specs.ShrinkCommand.{IsLookedFor}
+use Rattle.brd_command.specs.Saving.{IsOfJournal}
+use Rattle.brd_command.proofs.SavingLemmas.{of_shrinking}
+use Rattle.brd_explore.specs.Shrinking.{is_failing, IsLeast}
+use Rattle.brd_explore.specs.declared.wanted.Wanted.{Wanted}
+use Rattle.brd_journal.specs.Text.{text_of}
+use Rattle.brd_search.specs.Shown.{shown}
+use Rattle.brd_shrink.specs.Settled.{AreSome, IsSettled}
+use Rattle.brd_shrink.specs.Turns.{switches}
+use Rattle.brd_threads.specs.Processors.{processors_of}
 
 -- ---- events taken one by one
 
@@ -92,3 +103,26 @@ module _ (options : ShrinkOptions) where
     told = text;
     written = written;
   }
+
+-- what is told of the events that are left, or why it isn't
+pub told_shrunk : (options : ShrinkOptions) (start : Start) (wanted : Wanted) (all left : List Event)
+    (result : Result Told CommandFault) → IsLookedFor options start wanted → processors_of start.board ≤ 8
+    → all ≡ start.journal.events → length all ≤ 1000000 → is_failing wanted start.board left ≡ true
+    → AreSome left all → length left ≤ length all → IsLeast wanted start.board left → switches left ≤ switches all
+    → IsSettled wanted start.board left
+    → MatchResult result (λ told. told.journal.items ≡ text_of start.board.memory.order (shown wanted start.board left))
+    (IsOfJournal (shown wanted start.board left))
+    → MatchResult result (λ told. IsShrunk options start told.journal.items) (KeepsFromShrinking options start)
+told_shrunk options start wanted all left (Ok told) looks few same most fails some shorter least fewer settled is = record {
+  wanted = wanted;
+  looks = looks;
+  left = left;
+  fails = fails;
+  some = subst (AreSome left) same some;
+  least = least;
+  fewer = subst (λ (es : List Event). switches left ≤ switches es) same fewer;
+  settled = settled;
+  is_text = is;
+}
+told_shrunk options start wanted all left (Err fault) looks few same most fails some shorter least fewer settled keeps =
+    of_shrinking options start wanted all left fault looks few shorter most keeps

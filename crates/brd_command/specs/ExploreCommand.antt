@@ -1,5 +1,5 @@
 -- The command `explore`: what it writes for what it reads, which journal it saves, and how it ends.
-use Rattle.std.specs.Prelude.{◌≡◌, ◌⊎◌, ℕ, true, List, ◌++◌, codes, Option, None, Some, IfSome, Result, Ok, Err}
+use Rattle.std.specs.Prelude.{◌≡◌, ◌⊎◌, ℕ, true, false, List, ◌++◌, codes, Option, None, Some, IfSome, Result, Ok, Err}
 use Rattle.std.specs.Io.KnownBytes.{Appends, Keeps}
 use Rattle.std.specs.declared.io.Error.{Error}
 use Rattle.brd_board.specs.declared.event.Event.{Event}
@@ -9,18 +9,18 @@ use Rattle.brd_image.specs.declared.building.Loaded.{Loaded}
 use Rattle.brd_inputs.specs.Opening.{OpensPair}
 use Rattle.brd_inputs.specs.Start.{IsLoaded, KeepsFromLoading}
 use Rattle.brd_inputs.specs.declared.fault.CommandFault.{CommandFault}
-use Rattle.brd_inputs.specs.declared.fault.CommandFault.TheVariants.{NoMemory, Schedule, Search, Write, Fails}
+use Rattle.brd_inputs.specs.declared.fault.CommandFault.TheVariants.{NoMemory, Search, Write, Fails}
 use Rattle.brd_inputs.specs.declared.inputs.Pair.{Pair}
-use Rattle.brd_inputs.specs.declared.schedule_fault.ScheduleFault.TheVariants.{TooLong}
 use Rattle.brd_journal.specs.Text.{text_of}
 use Rattle.brd_report.specs.Output.{WritesFront}
 use Rattle.brd_search.specs.Plans.{IsPlan, KeepsFromPlanning}
-use Rattle.brd_search.specs.Searches.{Answers, IsShortest}
+use Rattle.brd_search.specs.Searches.{Answers, IsFewest, IsShortest}
 use Rattle.brd_search.specs.Shown.{shown}
+use Rattle.brd_search.specs.declared.fault.SearchFault.TheVariants.{OverInput}
 use Rattle.brd_search.specs.declared.options.SearchOptions.{SearchOptions}
 use Rattle.brd_search.specs.declared.plan.Plan.{Plan}
 use Rattle.brd_threads.specs.Processors.{processors_of}
-use Rattle.brd_command.specs.Saving.{Saves}
+use Rattle.brd_command.specs.Saving.{Saves, is_over}
 
 -- a text begins with these words
 abbrev pub Begins : List ℕ → List ℕ → Type 0
@@ -35,22 +35,24 @@ Tells plan b (Some events) text journal =
 
 -- The text and the journal tell what a search of a board has answered. Its plan is the one that the options ask for.
 -- What it has answered is so: the schedule is within the bounds and fails, or none of the plan's shard within them
--- does; and where the shortest is asked for, none with fewer events fails.
+-- does. None fails with fewer preemptions than a schedule's bounds leave; or if the shortest is asked for, none with
+-- fewer events within the plan's.
 pub record IsTold (options : SearchOptions) (loaded : Loaded) (text : List ℕ) (journal : Option (List ℕ)) : Type 0 where
   pub plan : Plan
-  pub planned : IsPlan options (processors_of loaded.board) loaded.image.symbols plan
+  pub planned : IsPlan options loaded.board (processors_of loaded.board) loaded.image.symbols plan
   pub bounds : Bounds
   pub schedule : Option (List Event)
   pub answers : Answers plan loaded.board bounds schedule
+  pub fewest : plan.shortest ≡ false → IsFewest plan loaded.board bounds schedule
   pub short : plan.shortest ≡ true → IsShortest plan loaded.board bounds schedule
   pub tells : Tells plan loaded.board schedule text journal
 
--- what keeps a search of a board from being told: want of memory, what is wrong with its options, or a journal with too
--- many runs
+-- What keeps a search of a board from being told: want of memory, or what is wrong with its options. (No journal of one
+-- is too long: a schedule has a million events at most, and its fair end 20,000 rounds of 129.)
 abbrev pub KeepsFromSearching : SearchOptions → Loaded → CommandFault → Type 0
 KeepsFromSearching options loaded NoMemory = Unit {0}
-KeepsFromSearching options loaded (Search fault) = KeepsFromPlanning options loaded.image.symbols fault
-KeepsFromSearching options loaded (Schedule TooLong) = Unit {0}
+KeepsFromSearching options loaded (Search fault) =
+    KeepsFromPlanning options loaded.board (processors_of loaded.board) loaded.image.symbols fault
 KeepsFromSearching options loaded _ = ⊥
 
 -- the object file and the configuration make a board, and the text and the journal tell of a search of it
@@ -88,13 +90,15 @@ abbrev pub failed : Result Unit CommandFault → Result Unit CommandFault
 failed (Ok done) = Err Fails
 failed (Err fault) = Err fault
 
--- IMAGE is opened first, then CONFIG; where both were, they are read. A file for the journal is created only where a
--- schedule was found that fails, after that is told.
+-- A journal that would be written over an input is refused. Else IMAGE is opened first, then CONFIG; where both were,
+-- they are read. A file for the journal is created only where a schedule was found that fails, after that is told.
 pub data ExploreFilesEnd {F R W : Type 0}
     (opened : F → List ℕ → Result R Error → F → Type 0) (created : F → List ℕ → Result W Error → F → Type 0)
     (closed : F → W → F → Type 0) (remaining : R → Option (List ℕ)) (contents : W → Option (List ℕ))
     (old : F) (image config : List ℕ) (options : SearchOptions) (out before after : Option (List ℕ))
     (result : Result Unit CommandFault) (new : F) : Type 0 where
+  over : is_over out image config ≡ true → result ≡ Err (Search OverInput) → before ≡ after → new ≡ old →
+      ExploreFilesEnd opened created closed remaining contents old image config options out before after result new
   not_opened : {fault : CommandFault} → OpensPair opened old image config (Err fault) new →
       result ≡ Err fault → before ≡ after →
       ExploreFilesEnd opened created closed remaining contents old image config options out before after result new

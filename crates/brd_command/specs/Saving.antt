@@ -1,19 +1,32 @@
 -- A journal that a search has found, and the file that gets it. `created` and `closed` say what calls on files did,
 -- `contents` what a file holds that is written.
-use Rattle.std.specs.Prelude.{◌≡◌, ℕ, List, Option, None, Some, Result, Ok, Err, IsErrAnd}
+use Rattle.std.specs.Prelude.{◌≡◌, ◌⊎◌, ℕ, ◌<◌, Bool, false, ◌||◌, List, length, bytes_eq, Option, None, Some, Result, Ok, Err, IsErrAnd}
 use Rattle.std.specs.Io.KnownBytes.{Appends}
 use Rattle.std.specs.declared.io.Error.{Error}
+use Rattle.brd_board.specs.declared.event.Event.{Event}
 use Rattle.brd_inputs.specs.Faults.{IsOfOpen}
 use Rattle.brd_inputs.specs.declared.fault.CommandFault.{CommandFault}
 use Rattle.brd_inputs.specs.declared.fault.CommandFault.TheVariants.{NoMemory, Schedule, Write}
 use Rattle.brd_inputs.specs.declared.schedule_fault.ScheduleFault.TheVariants.{TooLong}
+use Rattle.brd_journal.specs.Journal.{most_runs}
+use Rattle.brd_journal.specs.declared.fault.JournalFault.{JournalFault}
+use Rattle.brd_journal.specs.declared.fault.JournalFault.TheVariants as journal_fault
 use Rattle.brd_report.specs.Output.{AppendsFront}
 
--- what may keep events from being a journal: want of memory, or that they have more runs than a journal may have
-abbrev pub IsOfJournal : CommandFault → Type 0
-IsOfJournal NoMemory = Unit {0}
-IsOfJournal (Schedule TooLong) = Unit {0}
-IsOfJournal _ = ⊥
+-- what may keep events from being a journal: want of memory, or that they are more than a journal may have runs
+abbrev pub IsOfJournal : List Event → CommandFault → Type 0
+IsOfJournal events fault = (fault ≡ NoMemory) ⊎ ((fault ≡ Schedule TooLong) × (most_runs < length events))
+
+-- the same, in the words of a journal
+abbrev pub KeepsFromJournal : List Event → JournalFault → Type 0
+KeepsFromJournal events journal_fault.NoMemory = Unit {0}
+KeepsFromJournal events journal_fault.Full = most_runs < length events
+KeepsFromJournal events (journal_fault.Syntax line) = ⊥
+
+-- a journal would be written over the object file or the configuration
+abbrev pub is_over : Option (List ℕ) → List ℕ → List ℕ → Bool
+is_over None image config = false
+is_over (Some name) image config = bytes_eq name image || bytes_eq name config
 
 -- bytes were written, or writing failed after a front of them
 abbrev pub AreWritten : List ℕ → Result Unit CommandFault → Option (List ℕ) → Option (List ℕ) → Type 0

@@ -8,10 +8,9 @@ use Rattle.brd_explore.specs.declared.wanted.Wanted.{Wanted}
 use Rattle.brd_inputs.specs.Opening.{OpensInputs}
 use Rattle.brd_inputs.specs.Start.{IsStart, KeepsFromStarting}
 use Rattle.brd_inputs.specs.declared.fault.CommandFault.{CommandFault}
-use Rattle.brd_inputs.specs.declared.fault.CommandFault.TheVariants.{NoMemory, Passes, Schedule, Search, Write}
+use Rattle.brd_inputs.specs.declared.fault.CommandFault.TheVariants.{NoMemory, Passes, Search, Write}
 use Rattle.brd_inputs.specs.declared.input_name.InputName.TheVariants as input_name
 use Rattle.brd_inputs.specs.declared.inputs.Inputs.{Inputs}
-use Rattle.brd_inputs.specs.declared.schedule_fault.ScheduleFault.TheVariants.{TooLong}
 use Rattle.brd_inputs.specs.declared.start.Start.{Start}
 use Rattle.brd_journal.specs.Journal.{JournalState}
 use Rattle.brd_journal.specs.Text.{text_of}
@@ -23,7 +22,7 @@ use Rattle.brd_search.specs.declared.fault.SearchFault.TheVariants as search_fau
 use Rattle.brd_shrink.specs.Settled.{AreSome, IsSettled}
 use Rattle.brd_shrink.specs.Turns.{switches}
 use Rattle.brd_threads.specs.Processors.{processors_of}
-use Rattle.brd_command.specs.Saving.{Saves}
+use Rattle.brd_command.specs.Saving.{Saves, is_over}
 use Rattle.brd_command.specs.declared.shrink_command.ShrinkOptions.{ShrinkOptions}
 
 -- What the options look for on a board.
@@ -50,19 +49,24 @@ pub record Passing (options : ShrinkOptions) (start : Start) : Type 0 where
   pub looks : IsLookedFor options start wanted
   pub passes : is_failing wanted start.board start.journal.events ≡ false
 
+-- a journal's events, of which there are a million at most
+pub record AreEventsOf (journal : JournalState) (events : List Event) : Type 0 where
+  pub same : events ≡ journal.events
+  pub few : length events ≤ 1000000
+
 -- what keeps a journal's events from being taken one by one: want of memory, or that there are more than a million
 abbrev pub IsOfLength : JournalState → SearchFault → Type 0
 IsOfLength journal search_fault.NoMemory = Unit {0}
 IsOfLength journal search_fault.Journal = 1000000 < length journal.events
 IsOfLength journal _ = ⊥
 
--- what keeps a journal from being made shorter: want of memory, what is wrong with the options, that it has more than a
--- million events, that what is left has too many runs, or that it passes
+-- What keeps a journal from being made shorter: want of memory, what is wrong with the options, that it has more than a
+-- million events, or that it passes. (What is left is never too long for a journal: it has a million events at most,
+-- and its fair end 20,000 rounds of 129.)
 abbrev pub KeepsFromShrinking : ShrinkOptions → Start → CommandFault → Type 0
 KeepsFromShrinking options start NoMemory = Unit {0}
 KeepsFromShrinking options start (Search fault) =
     KeepsFromWanting options.looks options.fair start.image.symbols fault ⊎ IsOfLength start.journal fault
-KeepsFromShrinking options start (Schedule TooLong) = Unit {0}
 KeepsFromShrinking options start Passes = Passing options start
 KeepsFromShrinking options start _ = ⊥
 
@@ -100,13 +104,16 @@ RefusesShrinking options image config events old new fault =
     × Keeps old new)
     ⊎ IsUnwritten options image config events old new fault
 
--- IMAGE is opened first, then CONFIG, then JOURNAL; where all were, they are read. A file for what is left is created
+-- A journal that would be written over the object file or the configuration is refused. Else IMAGE is opened first, then
+-- CONFIG, then JOURNAL; where all were, they are read. A file for what is left is created
 -- only after that is told.
 pub data ShrinkFilesEnd {F R W : Type 0}
     (opened : F → List ℕ → Result R Error → F → Type 0) (created : F → List ℕ → Result W Error → F → Type 0)
     (closed : F → W → F → Type 0) (remaining : R → Option (List ℕ)) (contents : W → Option (List ℕ))
     (old : F) (image config journal : List ℕ) (options : ShrinkOptions) (out before after : Option (List ℕ))
     (result : Result Unit CommandFault) (new : F) : Type 0 where
+  over : is_over out image config ≡ true → result ≡ Err (Search search_fault.OverInput) → before ≡ after → new ≡ old →
+      ShrinkFilesEnd opened created closed remaining contents old image config journal options out before after result new
   not_opened : {fault : CommandFault} → OpensInputs opened old image config journal (Err fault) new →
       result ≡ Err fault → before ≡ after →
       ShrinkFilesEnd opened created closed remaining contents old image config journal options out before after result new

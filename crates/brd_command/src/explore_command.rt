@@ -4,17 +4,20 @@ ghost use Rattle.std.specs.Prelude.{◌≡◌, ◌++◌, codes, option_map, IfOk
 ghost use Rattle.brd_command.specs.ExploreCommand.{Explores, ExploreFilesEnd, IsTold, KeepsFromSearching};
 ghost use Rattle.brd_command.specs.ExploreCommand.{Begins, RefusesExploring, Tells};
 ghost use Rattle.brd_command.specs.Saving.{IsOfJournal};
+ghost use Rattle.brd_search.specs.Shown.{shown};
 ghost use Rattle.brd_board.specs.Board.{BoardState};
 
-use crate::saving::{journal_text, save};
+use crate::saving::{is_over, journal_text, save};
 use brd_base::NoMemory;
 use brd_board::{Board, Event};
-use brd_explore::Watch;
+use brd_explore::{Counts, Watch};
 use brd_inputs::{CommandFault, Files, Loaded, Pair, open_pair, read_board};
 use brd_mem::Symbol;
 use brd_progress::Progress;
 use brd_report::write_whole;
-use brd_search::{Plan, SearchOptions, plan_of, put_found, put_none, search, shown_events};
+use brd_search::{
+    Plan, SearchFault, SearchOptions, plan_of, put_found, put_none, search, shown_events,
+};
 use brd_threads::processors;
 use std::alloc::Global;
 use std::io::{Read, Write};
@@ -66,9 +69,9 @@ pub fn explore<R: Read, W: Write, P: Progress>(
     }
 }
 
-/// Does `explore` on its files: IMAGE is opened, then CONFIG, and both are read. Where a schedule was found that fails,
-/// OUT, if it is named, is created or emptied after that is told, and gets the journal; the command then ends as one
-/// that has found a failure does.
+/// Does `explore` on its files: IMAGE is opened, then CONFIG, and both are read. OUT may be neither. If a schedule was
+/// found that fails, OUT, if it is named, is created or emptied after that is told, and gets the journal; the command
+/// then ends as one that has found a failure does.
 pub fn explore_files<F: Files, W: Write, P: Progress>(
     alloc: Global,
     files: &mut F,
@@ -83,6 +86,9 @@ pub fn explore_files<F: Files, W: Write, P: Progress>(
         files.old image.now config.now options.entry (option_map (λ name. name.now) out.entry)
         (W.contents output.old) (W.contents output.new) result files.new }
 {
+    if is_over(out, image, config) {
+        return Err(CommandFault::Search(SearchFault::OverInput));
+    }
     let mut pair = match open_pair(alloc, files, image, config) {
         Ok(pair) => pair,
         Err(fault) => return Err(fault),
@@ -111,7 +117,7 @@ fn told_of<P: Progress>(
 {
     let symbols = loaded.image.symbols.as_slice();
     let cpus = processors(&loaded.board) as u8;
-    let plan = match plan_of(alloc, &options, cpus, symbols) {
+    let plan = match plan_of(alloc, &options, &loaded.board, cpus, symbols) {
         Ok(plan) => plan,
         Err(fault) => return Err(CommandFault::of_search(fault)),
     };
@@ -119,17 +125,22 @@ fn told_of<P: Progress>(
     let searched = search(alloc, &loaded.board, &plan, &mut watch)?;
     match searched.schedule {
         Some(events) => told_found(alloc, &loaded.board, symbols, &plan, &events),
-        None => Ok(told_none(alloc, &plan, searched.tried)?),
+        None => Ok(told_none(alloc, symbols, &plan, searched.counts)?),
     }
 }
 
 /// What is told where no schedule fails.
-fn told_none(alloc: Global, plan: &Plan, tried: u64) -> Result<Told, NoMemory>
+fn told_none(
+    alloc: Global,
+    symbols: &[Symbol],
+    plan: &Plan,
+    counts: Counts,
+) -> Result<Told, NoMemory>
     ensures { (board : BoardState) → IfOk result
         (λ told. Tells plan.now board None told.text.items (option_map (λ text. text.items) told.journal)) }
 {
     let mut rest = Vec::new(alloc);
-    put_none(alloc, plan, tried, &mut rest)?;
+    put_none(alloc, symbols, plan, counts, &mut rest)?;
     let text = joined(alloc, NONE, &rest)?;
     Ok(Told {
         text,
@@ -148,7 +159,7 @@ fn told_found(
     ensures { MatchResult result
         (λ told. Tells plan.now board.now (Some events.now) told.text.items
         (option_map (λ text. text.items) told.journal))
-        IsOfJournal }
+        (IsOfJournal (shown plan.now.wanted board.now events.now)) }
 {
     let text = text_found(alloc, board, symbols, plan, events)?;
     let shown = shown_events(alloc, &plan.wanted, board, events)?;

@@ -1,8 +1,8 @@
 //! Journals that a search has found: their texts, and the files that get them.
 
-ghost use Rattle.std.specs.Prelude.{◌≡◌, IfOk, MatchResult, option_map};
+ghost use Rattle.std.specs.Prelude.{◌≡◌, MatchResult, option_map};
 ghost use Rattle.brd_journal.specs.Text.{text_of};
-ghost use Rattle.brd_command.specs.Saving.{IsOfJournal, Saves};
+ghost use Rattle.brd_command.specs.Saving.{IsOfJournal, KeepsFromJournal, Saves, is_over};
 
 use brd_board::Event;
 use brd_inputs::{CommandFault, Files, ScheduleFault};
@@ -17,7 +17,7 @@ pub(crate) fn journal_text(
     order: Order,
     events: &[Event],
 ) -> Result<Vec<u8>, CommandFault>
-    ensures { MatchResult result (λ text. text.items ≡ text_of order events.now) IsOfJournal }
+    ensures { MatchResult result (λ text. text.items ≡ text_of order events.now) (IsOfJournal events.now) }
 {
     let journal = match journal_of(alloc, order, events) {
         Ok(journal) => journal,
@@ -32,13 +32,29 @@ pub(crate) fn journal_text(
 
 /// The journal of these events, for boards of this byte order.
 fn journal_of(alloc: Global, order: Order, events: &[Event]) -> Result<Journal, JournalFault>
-    ensures { IfOk result (λ journal. (journal.events ≡ events.now) × (journal.order ≡ order)) }
+    ensures { MatchResult result (λ journal. (journal.events ≡ events.now) × (journal.order ≡ order))
+        (KeepsFromJournal events.now) }
 {
     let mut journal = Journal::new(alloc, MOST_RUNS, order);
     for event in events {
-        journal.push(*event)?;
+        match journal.push(*event) {
+            Ok(()) => {}
+            Err(fault) => return Err(fault),
+        }
     }
     Ok(journal)
+}
+
+/// Whether a journal would be written over the object file or the configuration: by its name.
+pub(crate) fn is_over(out: Option<&str>, image: &str, config: &str) -> bool
+    ensures { result ≡ is_over (option_map (λ name. name.now) out.entry) image.now config.now }
+{
+    match out {
+        Some(name) => {
+            name.as_bytes() == image.as_bytes() || name.as_bytes() == config.as_bytes()
+        }
+        None => false,
+    }
 }
 
 /// Writes a journal to the file that is named, if one is: it is created or emptied, and let go afterwards.

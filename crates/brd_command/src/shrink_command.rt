@@ -5,9 +5,9 @@ ghost use Rattle.brd_journal.specs.Text.{text_of};
 ghost use Rattle.brd_search.specs.Shown.{shown};
 ghost use Rattle.brd_command.specs.Saving.{IsOfJournal};
 ghost use Rattle.brd_command.specs.ShrinkCommand.{IsShrunk, KeepsFromShrinking, RefusesShrinking, ShrinkFilesEnd};
-ghost use Rattle.brd_command.specs.ShrinkCommand.{IsOfLength, Shrinks};
+ghost use Rattle.brd_command.specs.ShrinkCommand.{AreEventsOf, IsOfLength, Shrinks};
 
-use crate::saving::{journal_text, save};
+use crate::saving::{is_over, journal_text, save};
 use brd_base::NoMemory;
 use brd_board::Event;
 use brd_explore::{Wanted, fails};
@@ -87,6 +87,9 @@ pub fn shrink_files<F: Files, W: Write>(
         files.old image.now config.now journal.now options.entry (option_map (λ name. name.now) out.entry)
         (W.contents output.old) (W.contents output.new) result files.new }
 {
+    if is_over(out, image, config) {
+        return Err(CommandFault::Search(SearchFault::OverInput));
+    }
     let mut inputs = match open_inputs(alloc, files, image, config, journal) {
         Ok(inputs) => inputs,
         Err(fault) => return Err(fault),
@@ -121,7 +124,7 @@ fn told_of(alloc: Global, start: &Start, options: ShrinkOptions<'_>) -> Result<T
 
 /// The events of a journal one by one.
 fn events_of(alloc: Global, journal: &Journal) -> Result<Vec<Event>, SearchFault>
-    ensures { MatchResult result (λ events. events.items ≡ journal.now.events) (IsOfLength journal.now) }
+    ensures { MatchResult result (λ events. AreEventsOf journal.now events.items) (IsOfLength journal.now) }
 {
     if journal.len() > MOST_EVENTS {
         return Err(SearchFault::Journal);
@@ -145,7 +148,7 @@ fn told_left(
 ) -> Result<Told, CommandFault>
     ensures { MatchResult result
         (λ told. told.journal.items ≡ text_of start.now.board.memory.order (shown wanted.now start.now.board left.now))
-        IsOfJournal }
+        (IsOfJournal (shown wanted.now start.now.board left.now)) }
 {
     let text = text_left(alloc, start, wanted, all, left)?;
     let shown = shown_events(alloc, wanted, &start.board, left)?;

@@ -1,6 +1,9 @@
-use Rattle.std.proofs.Common.{refl}
-use Rattle.brd_command.specs.ExploreCommand.ExploreFilesEnd.{not_opened, refused, none, found}
+use Rattle.std.proofs.Common.{refl, sym, ◌∙◌}
+use Rattle.brd_command.specs.ExploreCommand.ExploreFilesEnd.{over, not_opened, refused, none, found}
 use Rattle.brd_command.proofs.explore_command.explore_files.Goals as goal
+
+pub returns-then-is_over : goal.returns-then-is_over
+returns-then-is_over g c = over (sym c.is_over.ensures ∙ c.if-is_over.true) refl refl refl
 
 pub returns-in-Err : goal.returns-in-Err
 returns-in-Err g c = not_opened c.in-Err.ensures refl refl

@@ -1,4 +1,5 @@
-use Rattle.std.proofs.Common.{rules}
+use Rattle.std.proofs.Common.{rules, ◌≡◌, ◌≤◌, List, length, subst, sym}
+use Rattle.brd_board.specs.declared.event.Event.{Event}
 use Rattle.brd_command.proofs.ShrinkLemmas.{all_taken, stays_taken}
 use Rattle.brd_command.proofs.shrink_command.events_of.Goals as goal
 
@@ -9,4 +10,9 @@ events-preserved c =
 
 pub returns : goal.returns
 returns c =
-    all_taken c.args.journal.now.events c.events.events.items c.len-in-events.result c.events.invariant (search rules) c.in_default.ensures
+    let same : c.events.events.items ≡ c.args.journal.now.events =
+    all_taken c.args.journal.now.events c.events.events.items c.len-in-events.result c.events.invariant (search rules) c.in_default.ensures in
+    record {
+      same = same;
+      few = subst (λ (es : List Event). length es ≤ 1000000) (sym same) (search rules);
+    }
