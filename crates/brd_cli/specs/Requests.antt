@@ -127,7 +127,6 @@ abbrev pub AreSizes : List Row → Sizes → Type 0
 AreSizes rows sizes = IsNumberOr 1000 (one_of (codes "EVENTS") rows) sizes.events
     × IsNumberOr 1 (one_of (codes "PREEMPTIONS") rows) sizes.preemptions
     × IsNumberOr 0 (one_of (codes "TICKS") rows) sizes.ticks
-    × IsNumberOr 0 (one_of (codes "RAISES") rows) sizes.raises
     × IsNumberOr 0 (one_of (codes "ROUNDS") rows) sizes.fair
 
 -- what `explore` and `shrink` look for
@@ -141,6 +140,7 @@ AreLooks rows looks = IsFlag (one_of (codes "exception") rows) looks.exception
 -- the options of `explore`, each as it was given
 abbrev pub AreSearchOptions : List Row → SearchOptions → Type 0
 AreSearchOptions rows options = AreSizes rows options.sizes
+    × (option_map (λ text. text.now) options.raises ≡ first_of (codes "RAISES") rows)
     × (option_map (λ text. text.now) options.lines ≡ first_of (codes "LINES") rows)
     × AreLooks rows options.looks
     × IsFlag (one_of (codes "shortest") rows) options.shortest

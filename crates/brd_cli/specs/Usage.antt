@@ -109,7 +109,7 @@ journal = command_with (codes "journal")
 abbrev pub bounds : List Rule
 bounds =
     count (codes "EVENTS") (codes "events") ∷ count (codes "PREEMPTIONS") (codes "preemptions")
-    ∷ count (codes "TICKS") (codes "ticks") ∷ count (codes "RAISES") (codes "raises")
+    ∷ count (codes "TICKS") (codes "ticks") ∷ option (codes "RAISES") (codes "raises")
     ∷ option (codes "LINES") (codes "lines") ∷ []
 
 abbrev pub checks : List Rule

@@ -247,6 +247,7 @@ fn search_options_of<'a>(arguments: &ArgMatches<'a>) -> SearchOptions<'a>
 {
     SearchOptions {
         sizes: sizes_of(arguments),
+        raises: text_of(arguments, "RAISES"),
         lines: text_of(arguments, "LINES"),
         looks: looks_of(arguments),
         shortest: flag_of(arguments, "shortest"),
@@ -269,7 +270,6 @@ fn sizes_of(arguments: &ArgMatches) -> Sizes
         events: number_or(arguments, "EVENTS", USUAL_EVENTS),
         preemptions: number_or(arguments, "PREEMPTIONS", USUAL_PREEMPTIONS),
         ticks: number_or(arguments, "TICKS", 0),
-        raises: number_or(arguments, "RAISES", 0),
         fair: number_or(arguments, "ROUNDS", 0),
     }
 }

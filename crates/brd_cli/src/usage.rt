@@ -119,8 +119,8 @@ Example, from the top of the repository:
 const EXPLORE: &str = "\
 All schedules within the bounds are searched: those without preemptions first, then those with one,
 and so on. A schedule is a list of events. A preemption is a step that leaves another processor that
-could go on. Unless it is said what fails, an exception or a deadlock does. Where a schedule fails,
-it is told, OUT gets its journal, and the status is 1; where none does, that is told, and it is 0.
+could go on. Unless it is said what fails, an exception or a deadlock does. If a schedule fails, it
+is told, OUT gets its journal, and the status is 5; if none does, that is told, and it is 0.
 
 Example, from the top of the repository:
   board asm examples/lost_update/racy.s build/racy.elf
@@ -472,11 +472,11 @@ fn with_bounds<'a>(alloc: Global, command: Command<'a>) -> Result<Command<'a>, N
             "ticks",
             "How many ticks it has at most; 0 if left out",
         ))?
-        .arg(count(
+        .arg(option(
             alloc,
             "RAISES",
             "raises",
-            "How many times an interrupt line is raised at most; 0 if left out",
+            "How often lines are raised at most, R, or F..R: rest is an end after F; 0 if left out",
         ))?
         .arg(option(alloc, "LINES", "lines", "Which lines may be raised, as 3,4"))?;
     Ok(command)
