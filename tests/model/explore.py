@@ -1,15 +1,18 @@
 #!/usr/bin/env python3
 """All schedules of a board within bounds, by the model: whether one of them fails, and how many there are if none does.
 
-  tests/model/explore.py IMAGE CONFIG [--events N] [--preemptions P] [--ticks T] [--raises R --lines 3,4]
+  tests/model/explore.py IMAGE CONFIG [--events N] [--preemptions P] [--ticks T] [--raises R|F..R --lines 3,4]
       [--fair ROUNDS] [--exception] [--deadlock] [--ends] [--word count=2,inside=0..1] [--console TEXT] [--shortest]
       [--shard K/M] [--out JOURNAL] [--board PROGRAM]
 
 IMAGE is an object file, or a source, which PROGRAM (build/board) assembles; the options are those of `board explore`.
-It ends with status 1 where a schedule fails, and prints how many preemptions and events it has, and what fails.
+It ends with status 5 if a schedule fails, and prints how many preemptions and events it has, and what fails.
 
 CHESS (Musuvathi and Qadeer, "Iterative Context Bounding for Systematic Testing of Multithreaded Programs", PLDI 2007)
 has the bound on preemptions: a switch from a thread that could go on counts, one from a thread that can't is free.
+Whether it could is judged right after its last step. A schedule comes to an end where its board is off, or at rest
+after as many raises as are owed; it is cut short where it hasn't, and no event is left, or nobody goes, a wait would end
+by a tick, and none is left.
 
 Some steps are left out: where a schedule with one of them fails, one without it does. A processor falls asleep by a
 local instruction: one that touches nothing but registers, HI, LO and the program counter, and can raise nothing,
@@ -38,9 +41,9 @@ from machine import RAM_START, decode  # noqa: E402
 ROUND = 16
 ATTRIBUTES = {"TA_NULL": 0, "TA_HLNG": 0, "TA_ASM": 1, "TA_ACT": 2, "TA_TFIFO": 0, "TA_TPRI": 1, "TA_WSGL": 0,
               "TA_WMUL": 2, "TA_CLR": 4}
-Bounds = collections.namedtuple("Bounds", "events preemptions ticks raises")
-# Where a schedule is, beside its board: what is left of the bounds, who has stepped last, the path there (None, or a
-# pair of the path before and an event), and who sleeps, if somebody does.
+Bounds = collections.namedtuple("Bounds", "events preemptions ticks raises owed")
+# Where a schedule is, beside its board: what is left of the bounds, whom a step of another processor preempts (0:
+# nobody), the path there (None, or a pair of the path before and an event), and who sleeps, if somebody does.
 Place = collections.namedtuple("Place", "left last path asleep")
 # A processor that sleeps, and the local instruction by which it fell asleep.
 Asleep = collections.namedtuple("Asleep", "processor address word")
@@ -135,32 +138,55 @@ class Explored(Board):
         return self.fault_of(wanted.always)
 
     def fault_at_last(self, wanted):
-        """What the last board of a schedule shows, or nothing. Where there is no fair end, a board that would still go
-        on says nothing."""
-        for _ in range(wanted.rounds):
-            for _ in range(ROUND):
-                for number in self.processors:
-                    self.event("S", number)
-            self.event("T")
-        found = self.fault_by_now(wanted)
-        if found or not (wanted.rounds or self.off or self.is_still()):
-            return found
+        """What a last board of a schedule shows, or nothing."""
         if wanted.console is not None and not self.console.startswith(wanted.console):
             return "another console"
         if "on" in wanted.names and not self.off:
             return "the board is on"
         return self.fault_of(wanted.last)
 
+    def fault_at_fair_end(self, wanted):
+        """What a copy of the board shows after the fair end, or nothing."""
+        copy = pickle.loads(self.packed())
+        for _ in range(wanted.rounds):
+            for _ in range(ROUND):
+                for number in copy.processors:
+                    copy.event("S", number)
+            copy.event("T")
+        return copy.fault_by_now(wanted) or copy.fault_at_last(wanted)
+
+    def is_end(self, left):
+        return self.off or left.owed == 0 and self.is_still()
+
+    def cut_by(self, left):
+        """The bound that has cut a schedule short, or nothing."""
+        if self.is_end(left):
+            return None
+        if left.events == 0:
+            return "events"
+        is_waiting = not any(map(self.goes, self.processors.values())) and not self.is_still()
+        return "ticks" if is_waiting and left.ticks == 0 else None
+
+    def fault_at(self, wanted, left):
+        """What a schedule shows that has led to the board, with so much left of the bounds, or nothing."""
+        found = self.fault_by_now(wanted)
+        if found is None and self.is_end(left):
+            return self.fault_at_last(wanted)
+        if found is None and wanted.rounds and left.owed == 0 and self.cut_by(left):
+            return self.fault_at_fair_end(wanted)
+        return found
+
 
 class Search:
-    """A search through schedules. `found` is a schedule that fails, and what fails there; `tried` is how many have come
-    to their end."""
+    """A search through schedules. `found` is a schedule that fails, and what fails there; `tried` is how many were gone
+    through up to where nothing more may come, and `ended` how many of these are at an end there."""
 
     def __init__(self, setup, bounds, wanted, lines, shard):
         self.setup, self.bounds, self.wanted, self.shard = setup, bounds, wanted, shard
         self.among = [("S", number) for number in range(1, setup.processors + 1)]
         self.among += [("T", 0)] * (bounds.ticks > 0) + [("R", line) for line in lines if bounds.raises]
-        self.tried, self.branches, self.found = 0, 0, None
+        self.tried, self.ended, self.branches, self.found = 0, 0, 0, None
+        self.cut = {"events": 0, "ticks": 0}
 
     def run(self):
         """Goes along the trunk, the schedule on which always the first event comes that may, and searches the branches
@@ -171,11 +197,12 @@ class Search:
             for event, after in self.own(ways[1:]):
                 branch = pickle.loads(board.packed())
                 branch.event(*event)
-                self.search(branch, after)
+                self.search(branch, left_by(branch, after, event))
                 if self.found:
                     return self.found
             event, place = ways[0]
             board.event(*event)
+            place = left_by(board, place, event)
             ways = self.ways(board, place)
         return self.found
 
@@ -193,18 +220,23 @@ class Search:
                 board = pickle.loads(packed)
             else:
                 return
-            place = place._replace(asleep=board.goes_by(event, place.asleep))
+            asleep = board.goes_by(event, place.asleep)
+            place = left_by(board, place, event)._replace(asleep=asleep)
 
     def ways(self, board, place):
         """The events that may come and aren't left out, with the place after each, but for who falls asleep or wakes by
-        it. There are none where the schedule fails or ends."""
-        fault = board.fault_by_now(self.wanted)
+        it. There are none where the schedule fails, or nothing more may come."""
+        fault = board.fault_at(self.wanted, place.left)
         ways = [] if fault else [(event, after) for event in self.among if board.does(event)
                                  for after in [place_after(board, place, event)] if min(after.left) >= 0]
-        if not ways:
-            self.tried += not fault
-            fault = fault or board.fault_at_last(self.wanted)
-            self.found = (listed(place.path), fault) if fault else None
+        if fault:
+            self.found = listed(place.path), fault
+        elif not ways:
+            self.tried += 1
+            if board.is_end(place.left):
+                self.ended += 1
+            else:
+                self.cut[board.cut_by(place.left)] += 1
         return [way for way in ways if not self.is_left_out(place, way[0])]
 
     def is_left_out(self, place, event):
@@ -222,10 +254,19 @@ class Search:
 def place_after(board, place, event):
     """The place after an event; something in it is below 0 where the bounds don't have it."""
     kind, number = event
-    (events, preemptions, ticks, raises), last, path, asleep = place
-    is_preempting = kind == "S" and last not in (0, number) and board.processors[last].context() is not None
-    left = Bounds(events - 1, preemptions - is_preempting, ticks - (kind == "T"), raises - (kind == "R"))
-    return Place(left, number if kind == "S" else last, (path, event), asleep)
+    (events, preemptions, ticks, raises, owed), last, path, asleep = place
+    is_preempting = kind == "S" and last not in (0, number)
+    left = Bounds(events - 1, preemptions - is_preempting, ticks - (kind == "T"), raises - (kind == "R"),
+                  max(owed - (kind == "R"), 0))
+    return Place(left, last, (path, event), asleep)
+
+
+def left_by(board, place, event):
+    """A place after its event was done: whom a step of another processor preempts there."""
+    kind, number = event
+    if kind != "S":
+        return place
+    return place._replace(last=number if board.processors[number].context() is not None else 0)
 
 
 def listed(path):
@@ -237,13 +278,14 @@ def listed(path):
 
 
 def searched(setup, bounds, wanted, lines, shard, shortest):
-    """The last search: with as few preemptions as fail, and then, if asked for, with as few events."""
+    """The last search: with as few preemptions as fail, and then, if asked for, with as few events as any within the
+    bounds."""
     for preemptions in range(bounds.preemptions + 1):
         search = Search(setup, bounds._replace(preemptions=preemptions), wanted, lines, shard)
         if search.run():
             break
     while shortest and search.found and search.found[0]:
-        fewer = Search(setup, search.bounds._replace(events=len(search.found[0]) - 1), wanted, lines, shard)
+        fewer = Search(setup, bounds._replace(events=len(search.found[0]) - 1), wanted, lines, shard)
         if not fewer.run():
             break
         search = fewer
@@ -350,12 +392,13 @@ def words_of_command():
     parser = argparse.ArgumentParser()
     parser.add_argument("image")
     parser.add_argument("config")
-    for name, number in (("events", 1000), ("preemptions", 1), ("ticks", 0), ("raises", 0), ("fair", 0)):
+    for name, number in (("events", 1000), ("preemptions", 1), ("ticks", 0), ("fair", 0)):
         parser.add_argument(f"--{name}", type=int, default=number)
     for name in ("exception", "deadlock", "ends", "shortest"):
         parser.add_argument(f"--{name}", action="store_true")
     for name in ("lines", "word", "console", "out"):
         parser.add_argument(f"--{name}")
+    parser.add_argument("--raises", default="0")
     parser.add_argument("--shard", default="1/1")
     parser.add_argument("--board", default="build/board")
     return parser.parse_args()
@@ -366,7 +409,8 @@ def main():
     image = image_of(words.image, words.board)
     with open(words.config, encoding="latin-1") as file:
         setup = setup_of(file.read(), image)
-    bounds = Bounds(words.events, words.preemptions, words.ticks, words.raises)
+    owed, _, raises = words.raises.rpartition("..")
+    bounds = Bounds(words.events, words.preemptions, words.ticks, int(raises), int(owed or raises))
     lines = [int(it) for it in (words.lines or "").split(",") if it]
     shard = tuple(map(int, words.shard.split("/")))
     search = searched(setup, bounds, wanted_of(words, image.symbols), lines, shard, words.shortest)
@@ -379,10 +423,13 @@ def main():
                 file.write(text)
         else:
             print(text, end="")
-        return 1
+        return 5
     print(f"none of {counted(search.tried, 'schedule')} fails: at most {counted(bounds.events, 'event')}, "
           f"{counted(bounds.preemptions, 'preemption')}, {counted(bounds.ticks, 'tick')} and "
-          f"{counted(bounds.raises, 'raise')}" + (f", shard {shard[0]} of {shard[1]}" if shard[1] > 1 else ""))
+          f"{counted(bounds.raises, 'raise')}"
+          + (f"; rest is an end after {counted(bounds.owed, 'raise')}" if bounds.raises else "")
+          + (f", shard {shard[0]} of {shard[1]}" if shard[1] > 1 else ""))
+    print(f"{search.ended} came to an end" + "".join(f", {it} by {name}" for name, it in search.cut.items()))
     return 0
 
 

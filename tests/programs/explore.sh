@@ -23,27 +23,34 @@ events() {
 
 # is_found: what is wrong with a search that should have found a schedule, of which the status is given.
 is_found() {
-    [ "$1" = 1 ] || echo -n "; status $1, wanted 1"
+    [ "$1" = 5 ] || echo -n "; status $1, wanted 5"
     [ "$(cat "$work/err")" = "board: a schedule fails" ] || echo -n "; standard error is '$(head -c 300 "$work/err")'"
     grep -q '^fails after ' "$work/out" && grep -qE '^ +0  ' "$work/out" || echo -n "; it doesn't say what happens: $(head -c 300 "$work/out")"
 }
 
-# is_none NUMBER BOUNDS STATUS: what is wrong with a search that should have tried so many schedules, and found none.
+# is_none NUMBER BOUNDS STATUS [ENDED]: what is wrong with a search that should have tried so many schedules, of which so
+# many came to an end (all if left out), and found none.
 is_none() {
-    local thing=schedules
+    local thing=schedules ended=${4:-$1}
     [ "$1" != 1 ] || thing=schedule
     [ "$3" = 0 ] || echo -n "; status $3, wanted 0"
     [ ! -s "$work/err" ] || echo -n "; standard error is '$(head -c 300 "$work/err")'"
-    [ "$(cat "$work/out")" = "none of $1 $thing fails: $2" ] || echo -n "; it says '$(head -c 300 "$work/out")'"
+    [ "$(head -n 1 "$work/out")" = "none of $1 $thing fails: $2" ] || echo -n "; it says '$(head -c 300 "$work/out")'"
+    sed -n 2p "$work/out" | grep -qE '^looked for: .' || echo -n "; it doesn't say what was looked for"
+    sed -n 3p "$work/out" | grep -qE "^$ended came to an end, (none was cut|[0-9]+ w(as|ere) cut) short" ||
+        echo -n "; it says '$(sed -n 3p "$work/out")', and not $ended"
+    [ "$(sed -n 3p "$work/out" | grep -c 'none was cut short')" = $((ended == $1)) ] || echo -n "; how many were cut short is wrong"
+    [ "$(grep -c '^warning: none came to an end' "$work/out")" = $((ended == 0 && ! fair)) ] || echo -n "; it warns, or doesn't"
 }
 
 # bounds OPTION..: how the bounds of options are told.
 bounds() {
     local -A number=([events]=1000 [preemptions]=1 [ticks]=0 [raises]=0)
-    local told="at most" name
+    local told="at most" name owed=0
     while [ $# -gt 0 ]; do
         case $1 in
-        --events | --preemptions | --ticks | --raises) number[${1#--}]=$2 ;;
+        --events | --preemptions | --ticks) number[${1#--}]=$2 ;;
+        --raises) number[raises]=${2##*.} owed=${2%%.*} ;;
         esac
         shift
     done
@@ -52,6 +59,8 @@ bounds() {
         [ "${number[$name]}" = 1 ] || told="$told ${number[$name]} $name"
         case $name in events | preemptions) told="$told," ;; ticks) told="$told and" ;; esac
     done
+    [ "${number[raises]}" = 0 ] || told="$told; rest is an end after $owed raises"
+    [ "$owed" != 1 ] || told="${told%s}"
     echo "$told"
 }
 
@@ -137,7 +146,7 @@ finds() {
         shift
     done
     explores "$image" "$config" "${fewer[@]}" --preemptions "$preemptions"
-    [ $? = 1 ] || wrong="$wrong; with $preemptions preemptions it isn't found"
+    [ $? = 5 ] || wrong="$wrong; with $preemptions preemptions it isn't found"
     if [ "$preemptions" -gt 0 ]; then
         explores "$image" "$config" "${fewer[@]}" --preemptions $((preemptions - 1)) ||
             wrong="$wrong; with one preemption fewer: status $?"
@@ -156,12 +165,16 @@ while IFS='|' read -r source config words told how; do
         finds "$source $words" "$examples/$config" "${answer[1]}" "${answer[2]:-}" "$how" "${given[@]}"
     else
         explores "$image" "$examples/$config" "${given[@]}"
-        verdict "explore: $source $words" "$(is_none "${answer[1]}" "$(bounds "${given[@]}")" $?)"
+        got=$?
+        fair=0
+        case $words in *--fair*) fair=1 ;; esac
+        verdict "explore: $source $words" "$(is_none "${answer[1]}" "$(bounds "${given[@]}")" $got "${answer[2]:-}")"
     fi
 done < $examples/cases
 
 # ---- The same board in the other byte order: as many schedules, and the words are those of its own order.
 
+fair=0
 for source in peterson.s peterson_right.s; do
     { echo '        .byteorder little'; cat $examples/$source; } > "$work/little.s"
     "$board" asm "$work/little.s" "$work/little"
@@ -196,7 +209,7 @@ explores "$image" $examples/lost_update.cfg --word 0x7fffffff=0
 verdict "explore: a word that isn't there" "$(is_found $?)"
 explores "$image" $examples/lost_update.cfg --word count=0..2,0x80000000=1..2 --out "$work/found"
 got=$?
-verdict "explore: what fails at once" "$([ $got = 1 ] || echo "status $got")$([ "$(events "$work/found")" = 0 ] || echo "; $(events "$work/found") events")"
+verdict "explore: what fails at once" "$([ $got = 5 ] || echo "status $got")$([ "$(events "$work/found")" = 0 ] || echo "; $(events "$work/found") events")"
 assembled handoff_right.s
 explores "$image" $examples/handoff.cfg --console '\x41\x42' --events 40
 verdict "explore: a console by its bytes" "$([ $? = 0 ] || head -c 300 "$work/out" "$work/err")"
@@ -205,17 +218,34 @@ verdict "explore: a console with a newline more" "$(is_found $?)"
 explores "$image" $examples/handoff.cfg --console 'A\\' --events 40
 verdict "explore: a console with a backslash" "$(is_found $?)"
 
+# ---- The shortest within the bounds, by more preemptions than the fewest; and more preemptions than can help
+
+"$board" asm examples/lost_update/racy.s "$work/racy"
+for most in 1 2; do
+    explores "$work/racy" examples/lost_update/racy.cfg --console 9 --ends --preemptions $most --shortest
+    wrong=$(is_found $?)
+    [ "$(head -n 1 "$work/out" | cut -d ' ' -f 3)" = $((62 - 2 * most)) ] || wrong="$wrong; it says $(head -n 1 "$work/out")"
+    verdict "explore: the shortest with $most preemptions" "$wrong"
+done
+explores "$work/racy" examples/lost_update/racy.cfg --console 9 --ends
+grep -q '^fails after 60 events: the console is "6", not "9"$' "$work/out"
+verdict "explore: what the console is" "$([ $? = 0 ] || head -n 1 "$work/out")"
+assembled interrupt.s
+(ulimit -t 20; exec "$board" explore "$image" $examples/interrupt.cfg --preemptions 100000) < /dev/null > "$work/out" 2> "$work/err"
+got=$?
+verdict "explore: more preemptions than can help" "$([ $got = 0 ] || echo "status $got")"
+
 # ---- Large searches: a million events in a row, and no more memory than a few boards take
 
 printf 'main: b main\nnop\n' > "$work/loop.s"
 "$board" asm "$work/loop.s" "$work/loop"
 explores "$work/loop" $examples/lost_update.cfg --events 1000000 --preemptions 0
-verdict "explore: a million events" "$(is_none 2 "at most 1000000 events, 0 preemptions, 0 ticks and 0 raises" $?)"
+verdict "explore: a million events" "$(is_none 2 "at most 1000000 events, 0 preemptions, 0 ticks and 0 raises" $? 0)"
 explores "$work/loop" $examples/lost_update.cfg --events 0 --ends
-verdict "explore: no events" "$(is_none 1 "at most 0 events, 1 preemption, 0 ticks and 0 raises" $?)"
+verdict "explore: no events" "$(is_none 1 "at most 0 events, 1 preemption, 0 ticks and 0 raises" $? 0)"
 explores "$work/loop" $examples/lost_update.cfg --events 0 --ends --fair 1
 got=$?
-verdict "explore: no events, and a fair end" "$([ $got = 1 ] || echo "status $got")"
+verdict "explore: no events, and a fair end" "$([ $got = 5 ] || echo "status $got")"
 assembled lost_update_right.s
 sed 's/0x10000)/0x1000000)/' $examples/lost_update.cfg > "$work/large.cfg"
 (ulimit -v 400000; exec "$board" explore "$image" "$work/large.cfg" --word count=2) < /dev/null > "$work/out" 2> "$work/err"
@@ -289,6 +319,15 @@ refuses "--events is a number from 0 to 1,000,000" --events 1000001
 refuses "--fair is a number of rounds from 0 to 20,000" --fair 20001
 refuses "--remember is a number of MiB from 0 to 4,096" --remember 4097
 refuses "--raises says how often lines may be raised, and --lines which" --raises 1
+refuses "--raises says how often lines may be raised, and --lines which" --lines 3
+for wrong in '' x -1 1.2 2..1 ..1 1.. 1..x 01 4294967296; do
+    refuses "--raises is R or F..R: lines are raised R times at most, and F times before rest is an end, R times if left out" \
+        "--raises=$wrong" --lines 3
+done
+refuses "--lines names a line without a handler" --raises 1 --lines 3
+refuses "--lines names a line twice" --raises 1 --lines 3,4,3
+refuses "--out names the object file or the configuration" --out "$image"
+refuses "--out names the object file or the configuration" --out $examples/lost_update.cfg
 for wrong in 32 x '1,,2' '1,' ',1' 01 ''; do
     refuses "--lines has interrupt lines from 0 to 31 with commas between them, as 3,4" --raises 1 --lines "$wrong"
 done
@@ -299,7 +338,7 @@ done
 for wrong in '\' '\q' '\x4' '\xzz'; do
     refuses '--console has a text, in which \n, \r, \t, \\ and \xHH stand for a byte' --console "$wrong"
 done
-for option in --events --preemptions --ticks --raises --fair --remember; do
+for option in --events --preemptions --ticks --fair --remember; do
     for wrong in x -1 1.5 4294967296; do
         explores "${files[@]}" $option $wrong
         got=$?

@@ -242,7 +242,7 @@ there is no lost.journal, which board explore keeps by --out
 the repair should be by ll and sc, on both processors: on processor 1 no sc has stored
 the repair should be by ll and sc, on both processors: on processor 2 no sc has stored
 with 5 seats the seller on processor 1 should sell some: it tries twice, and of its stores 1 take one away
-a schedule of lab.s fails: fails after 64 events: the console isn't the wanted text
+a schedule of lab.s fails: fails after 64 events: the console is "4", not "3"
     event 0  processor 2 goes on at seller
     event 3  processor 2 stops before beq $t0, $zero, 0x8000001c at try+0x4; processor 1 goes on at seller
     event 34  processor 2 goes on at try+0x4

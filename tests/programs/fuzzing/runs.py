@@ -112,9 +112,9 @@ class Runs:
         status, said = ended.status, ended.stderr
         if ended.warnings and case.kind not in WARN:
             return f"a warning {ended.warnings[:200]!r}"
-        if not 0 <= status <= 4 or status == 2 and case.kind not in HAS_OPTIONS:
+        if not 0 <= status <= 5 or status == 2 and case.kind not in HAS_OPTIONS or (status == 5) != (said == FAILS):
             return f"status {status}"
-        if said and status == 0 or status in (1, 3, 4) and not LINE.fullmatch(said) \
+        if said and status == 0 or status in (1, 3, 4, 5) and not LINE.fullmatch(said) \
                 or status == 2 and not (WRONG_LINE.fullmatch(said) or case.kind != "line" and LINE.fullmatch(said)):
             return f"status {status} with {said[:200]!r} on standard error"
         if ended.stdout and status and said != FAILS and (
@@ -298,7 +298,8 @@ class Runs:
         """A search says that none fails, or what does, and leaves a journal that can be played."""
         found = ended.files.get("out.journal")
         if ended.status == 0:
-            none = re.fullmatch(rb"none of [0-9]+ schedules? fails: at most .*\n", ended.stdout)
+            none = re.fullmatch(rb"none of [0-9]+ schedules? fails: at most .*\nlooked for: .*\n"
+                                rb"[0-9]+ came to an end, .*\n(warning: none came to an end, .*\n)?", ended.stdout)
             return None if none and found is None else "other words than of a search that finds nothing"
         if ended.stderr != FAILS:
             return "a journal after a fault" if found else None

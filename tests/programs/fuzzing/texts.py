@@ -225,7 +225,8 @@ class Texts:
     def search_options(self):
         words = ["--events", self.among("0", "1", "7", "20", "60", "1000001", "x")]
         for option, values in (("--preemptions", ("0", "1", "1", "4294967296")), ("--ticks", ("0", "1", "-1")),
-                               ("--raises", ("0", "1")), ("--lines", ("0", "3,4", "31", "32", "", "3,")),
+                               ("--raises", ("0", "1", "0..1", "2..1", "1.", "")),
+                               ("--lines", ("0", "3,4", "31", "32", "", "3,", "3,3")),
                                ("--shard", ("1/1", "2/3", "0/2", "3/2", "1", "/")), ("--remember", ("0", "1", "4097"))):
             if self.often(.3):
                 words += [option, self.among(*values)]

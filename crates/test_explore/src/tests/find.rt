@@ -283,6 +283,7 @@ fn bounds_of(case: &Case) -> Bounds {
         preemptions,
         ticks,
         raises: 0,
+        owed: 0,
     }
 }
 
@@ -300,7 +301,7 @@ fn search_of(alloc: Global, board: &Board, case: &Case, remember: usize) -> Told
         remember,
         &mut Nobody,
     ) {
-        Ok(found) => told_of(found.schedule.is_some(), found.tried),
+        Ok(found) => told_of(found.schedule.is_some(), found.counts.tried),
         Err(_) => Told::Nothing,
     }
 }
@@ -393,7 +394,7 @@ fn search_of_shard(alloc: Global, board: &Board, case: &Case, shard: Shard, reme
         remember,
         &mut Nobody,
     ) {
-        Ok(found) => told_of(found.schedule.is_some(), found.tried),
+        Ok(found) => told_of(found.schedule.is_some(), found.counts.tried),
         Err(_) => Told::Nothing,
     }
 }

@@ -1,7 +1,7 @@
 //! What searches are asked for by their options, and what may be wrong with these.
 
-use super::sources::{LOST_UPDATE, TWO};
-use brd_board::Event;
+use super::sources::{HANDLED, LOST_UPDATE, TWO};
+use brd_board::{Board, Event};
 use brd_explore::Failure;
 use brd_image::build;
 use brd_search::{Looks, SearchFault, SearchOptions, Sizes, plan_of, shown_events, wanted_of};
@@ -13,7 +13,6 @@ const SIZES: Sizes = Sizes {
     events: 10,
     preemptions: 1,
     ticks: 1,
-    raises: 0,
     fair: 0,
 };
 
@@ -27,14 +26,13 @@ const LOOKS: Looks = Looks {
 
 const OPTIONS: SearchOptions = SearchOptions {
     sizes: SIZES,
+    raises: None,
     lines: None,
     looks: LOOKS,
     shortest: false,
     shard: None,
     remember: 0,
 };
-
-const RAISES: Sizes = Sizes { raises: 1, ..SIZES };
 
 /// Options, and what is wrong with them.
 const FAULTS: &[(SearchOptions<'static>, SearchFault)] = &[
@@ -67,14 +65,85 @@ const FAULTS: &[(SearchOptions<'static>, SearchFault)] = &[
     ),
     (
         SearchOptions {
-            sizes: RAISES,
+            raises: Some("1"),
             ..OPTIONS
         },
         SearchFault::NoLines,
     ),
     (
         SearchOptions {
-            sizes: RAISES,
+            lines: Some("3"),
+            ..OPTIONS
+        },
+        SearchFault::NoLines,
+    ),
+    (
+        SearchOptions {
+            raises: Some("0..0"),
+            lines: Some("3"),
+            ..OPTIONS
+        },
+        SearchFault::NoLines,
+    ),
+    (
+        SearchOptions {
+            raises: Some("2..1"),
+            lines: Some("3"),
+            ..OPTIONS
+        },
+        SearchFault::Raises,
+    ),
+    (
+        SearchOptions {
+            raises: Some("1.2"),
+            lines: Some("3"),
+            ..OPTIONS
+        },
+        SearchFault::Raises,
+    ),
+    (
+        SearchOptions {
+            raises: Some("..2"),
+            lines: Some("3"),
+            ..OPTIONS
+        },
+        SearchFault::Raises,
+    ),
+    (
+        SearchOptions {
+            raises: Some("1.."),
+            lines: Some("3"),
+            ..OPTIONS
+        },
+        SearchFault::Raises,
+    ),
+    (
+        SearchOptions {
+            raises: Some(""),
+            lines: Some("3"),
+            ..OPTIONS
+        },
+        SearchFault::Raises,
+    ),
+    (
+        SearchOptions {
+            raises: Some("2"),
+            lines: Some("3,31,3"),
+            ..OPTIONS
+        },
+        SearchFault::Twice,
+    ),
+    (
+        SearchOptions {
+            raises: Some("2"),
+            lines: Some("3,4"),
+            ..OPTIONS
+        },
+        SearchFault::NoHandler,
+    ),
+    (
+        SearchOptions {
+            raises: Some("1"),
             lines: Some("3,32"),
             ..OPTIONS
         },
@@ -82,7 +151,7 @@ const FAULTS: &[(SearchOptions<'static>, SearchFault)] = &[
     ),
     (
         SearchOptions {
-            sizes: RAISES,
+            raises: Some("1"),
             lines: Some(""),
             ..OPTIONS
         },
@@ -138,18 +207,23 @@ const CONSOLES: &[(&str, Option<&[u8]>)] = &[
     ("\\\\\\", None),
 ];
 
+/// A board of which lines 3 and 31 have a handler.
+fn handled(alloc: Global) -> Option<Board> {
+    build(alloc, LOST_UPDATE.as_bytes(), HANDLED.as_bytes()).ok()
+}
+
 /// What is wrong with options, if something is.
-fn fault_of(alloc: Global, options: &SearchOptions<'_>) -> Option<SearchFault> {
-    match plan_of(alloc, options, 2, &[]) {
+fn fault_of(alloc: Global, board: &Board, options: &SearchOptions<'_>) -> Option<SearchFault> {
+    match plan_of(alloc, options, board, 2, &[]) {
         Ok(_) => None,
         Err(fault) => Some(fault),
     }
 }
 
 /// The first row of options that have another fault.
-fn first_wrong_fault(alloc: Global) -> Option<usize> {
+fn first_wrong_fault(alloc: Global, board: &Board) -> Option<usize> {
     for (row, (options, fault)) in FAULTS.iter().enumerate() {
-        if fault_of(alloc, options) != Some(*fault) {
+        if fault_of(alloc, board, options) != Some(*fault) {
             return Some(row);
         }
     }
@@ -157,14 +231,14 @@ fn first_wrong_fault(alloc: Global) -> Option<usize> {
 }
 
 /// The first row of words that have another fault.
-fn first_wrong_word(alloc: Global) -> Option<usize> {
+fn first_wrong_word(alloc: Global, board: &Board) -> Option<usize> {
     for (row, (words, fault)) in WORDS.iter().enumerate() {
         let looks = Looks {
             words: Some(*words),
             ..LOOKS
         };
         let options = SearchOptions { looks, ..OPTIONS };
-        if fault_of(alloc, &options) != Some(*fault) {
+        if fault_of(alloc, board, &options) != Some(*fault) {
             return Some(row);
         }
     }
@@ -211,15 +285,15 @@ fn shown_after(alloc: Global, words: &str) -> Option<usize> {
 }
 
 /// The events that may come are a step of each processor, a tick, and a raise of each line.
-fn may_come(alloc: Global) -> bool {
+fn may_come(alloc: Global, board: &Board) -> bool {
     let options = SearchOptions {
-        sizes: RAISES,
+        raises: Some("1..2"),
         lines: Some("3,31"),
         shard: Some("2/4"),
         remember: 1,
         ..OPTIONS
     };
-    let Ok(plan) = plan_of(alloc, &options, 2, &[]) else {
+    let Ok(plan) = plan_of(alloc, &options, board, 2, &[]) else {
         return false;
     };
     let events = [
@@ -230,6 +304,8 @@ fn may_come(alloc: Global) -> bool {
         Event::Raise(31),
     ];
     plan.among.as_slice() == events.as_slice()
+        && plan.bounds.raises == 2
+        && plan.bounds.owed == 1
         && plan.shard.number == 1
         && plan.shard.of == 4
         && plan.remember == 1
@@ -238,12 +314,20 @@ fn may_come(alloc: Global) -> bool {
 
 #[test]
 fn options_have_faults(rt: HostRuntime) -> Result<(), Fail> {
-    none_wrong(first_wrong_fault(rt.alloc()))
+    let alloc = rt.alloc();
+    none_wrong(match handled(alloc) {
+        Some(board) => first_wrong_fault(alloc, &board),
+        None => Some(0),
+    })
 }
 
 #[test]
 fn words_have_faults(rt: HostRuntime) -> Result<(), Fail> {
-    none_wrong(first_wrong_word(rt.alloc()))
+    let alloc = rt.alloc();
+    none_wrong(match handled(alloc) {
+        Some(board) => first_wrong_word(alloc, &board),
+        None => Some(0),
+    })
 }
 
 #[test]
@@ -253,7 +337,11 @@ fn consoles_are_read(rt: HostRuntime) -> Result<(), Fail> {
 
 #[test]
 fn events_may_come(rt: HostRuntime) -> Result<(), Fail> {
-    none_wrong(if may_come(rt.alloc()) { None } else { Some(0) })
+    let alloc = rt.alloc();
+    none_wrong(match handled(alloc) {
+        Some(board) if may_come(alloc, &board) => None,
+        _ => Some(0),
+    })
 }
 
 #[test]

@@ -12,6 +12,13 @@ pub const APART: &str = "BOARD(2, 0x10000);
     CRE_TSK(1, {TA_ACT, 0, main, 1, 256, NULL});
     CLASS(TCL_2) { CRE_TSK(2, {TA_ACT, 1, second, 1, 256, NULL}); }";
 
+/// The same, and lines 3 and 31 have a handler.
+pub const HANDLED: &str = "BOARD(2, 0x10000);
+    CRE_SEM(1, {TA_TFIFO, 1, 1}); CRE_SEM(2, {TA_TFIFO, 1, 1});
+    DEF_INH(3, {TA_HLNG, main}); DEF_INH(31, {TA_HLNG, main});
+    CRE_TSK(1, {TA_ACT, 0, main, 1, 256, NULL});
+    CLASS(TCL_2) { CRE_TSK(2, {TA_ACT, 1, main, 1, 256, NULL}); }";
+
 /// It goes on for ever.
 pub const LOOP: &str = "main: b main
         nop

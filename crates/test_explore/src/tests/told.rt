@@ -71,6 +71,8 @@ const CASES: &[Case] = &[
         fair: 0,
         looks: LOST,
         told: "24 schedules fails: at most 60 events, 1 preemption, 0 ticks and 0 raises
+looked for: 80000000 that isn't 2 at the end
+24 came to an end, none was cut short
 ",
     },
     Case {
@@ -91,7 +93,7 @@ const CASES: &[Case] = &[
 /// What is told of the search of a case.
 fn told_of(alloc: Global, case: &Case) -> Option<Vec<u8>> {
     let board = build(alloc, case.source.as_bytes(), case.config.as_bytes()).ok()?;
-    let plan = plan_of(alloc, &options_of(case), 2, &[]).ok()?;
+    let plan = plan_of(alloc, &options_of(case), &board, 2, &[]).ok()?;
     let searched = search(alloc, &board, &plan, &mut Nobody).ok()?;
     let mut out = Vec::new(alloc);
     told(alloc, &board, &plan, &searched, &mut out).ok()?;
@@ -105,9 +107,9 @@ fn options_of(case: &Case) -> SearchOptions<'static> {
             events: case.events,
             preemptions: case.preemptions,
             ticks: 0,
-            raises: 0,
             fair: case.fair,
         },
+        raises: None,
         lines: None,
         looks: case.looks,
         shortest: true,
@@ -125,7 +127,7 @@ fn told(
     out: &mut Vec<u8>,
 ) -> Result<(), NoMemory> {
     let Some(events) = &searched.schedule else {
-        return put_none(alloc, plan, searched.tried, out);
+        return put_none(alloc, &[], plan, searched.counts, out);
     };
     put_found(alloc, &[], board, &plan.wanted, events, out)
 }
