@@ -16,22 +16,22 @@ use Rattle.brd_image.specs.Building.{step, booted, loaded}
 use Rattle.brd_image.specs.Headline.{Headline, Starts}
 use Rattle.brd_image.specs.declared.fault.BuildFault.TheVariants.{Elf}
 use Rattle.brd_image.proofs.FittingLemmas as fitting
-use Rattle.brd_command.specs.Answers.{Does, HasDone, ended, found_text}
-use Rattle.brd_command.specs.Answers.HasDone.{nothing_yet as none_done, one_more as one_more_done}
-use Rattle.brd_command.specs.AsmCommand.{IsObjectFile}
-use Rattle.brd_command.specs.Debugging.{AnswersCutShort, AnswersToFirst, AnswersUpToLimit, DebugEnds}
-use Rattle.brd_command.specs.Debugging.{EndsAnswering, IsOver, StopsAnswering, debugger_of}
-use Rattle.brd_command.specs.DebugLine.{commands_of}
+use Rattle.brd_running.specs.Answers.{Does, HasDone, ended, found_text}
+use Rattle.brd_running.specs.Answers.HasDone.{nothing_yet as none_done, one_more as one_more_done}
+use Rattle.brd_running.specs.AsmCommand.{IsObjectFile}
+use Rattle.brd_running.specs.Debugging.{AnswersCutShort, AnswersToFirst, AnswersUpToLimit, DebugEnds}
+use Rattle.brd_running.specs.Debugging.{EndsAnswering, IsOver, StopsAnswering, debugger_of}
+use Rattle.brd_running.specs.DebugLine.{commands_of}
 use Rattle.brd_command.specs.Laws.{HasShown, IsAnswered, IsAssembled, Leads, ShowsAnswers}
 use Rattle.brd_command.specs.Laws.{ShowsFirstAnswers, ShowsHeadline, ShowsUpToEnd, StandsAt}
 use Rattle.brd_command.specs.Laws.HasShown.{nothing_yet, one_more}
 use Rattle.brd_report.specs.Output.{AppendsFront, Writes, WritesFront}
 use Rattle.brd_report.specs.Report.{number_line}
-use Rattle.brd_command.specs.RunCommand.{RunEnds, ShowsRun}
+use Rattle.brd_running.specs.RunCommand.{RunEnds, ShowsRun}
 use Rattle.brd_inputs.specs.Start.{IsStart}
-use Rattle.brd_command.specs.declared.debug_line.DebugCommand.{DebugCommand}
-use Rattle.brd_command.specs.declared.debug_line.DebugCommand.TheVariants.{Goto, Next, Back, Break, Watch, Registers}
-use Rattle.brd_command.specs.declared.debug_line.DebugCommand.TheVariants.{Memory, Quit, Unknown}
+use Rattle.brd_running.specs.declared.debug_line.DebugCommand.{DebugCommand}
+use Rattle.brd_running.specs.declared.debug_line.DebugCommand.TheVariants.{Goto, Next, Back, Break, Watch, Registers}
+use Rattle.brd_running.specs.declared.debug_line.DebugCommand.TheVariants.{Memory, Quit, Unknown}
 use Rattle.brd_inputs.specs.declared.fault.CommandFault.{CommandFault}
 use Rattle.brd_inputs.specs.declared.fault.CommandFault.TheVariants.{NoMemory, Read, TooLong, TooManyReads, Write}
 use Rattle.brd_inputs.specs.declared.start.Start.{Start}

@@ -18,12 +18,12 @@ use Rattle.brd_image.specs.Building.{Assembles, IsBuilt, IsImageOf, booted, buil
 use Rattle.brd_image.specs.declared.fault.BuildFault.{BuildFault}
 use Rattle.brd_image.specs.declared.fault.BuildFault.TheVariants as build_fault
 use Rattle.brd_image.proofs.FittingLemmas.{OneImage}
-use Rattle.brd_command.specs.AsmCommand.{AsmEnds, IsObjectFile}
-use Rattle.brd_command.specs.Debugging.{DebugEnds, EndsAnswering, debugger_of}
+use Rattle.brd_running.specs.AsmCommand.{AsmEnds, IsObjectFile}
+use Rattle.brd_running.specs.Debugging.{DebugEnds, EndsAnswering, debugger_of}
 use Rattle.brd_command.specs.Laws.{IsAssembled, MakesBoard, TellsOfBuilding, TellsOfSource}
-use Rattle.brd_command.specs.RaceCommand.{RaceEnds, ShowsRace, WritesRaceFront}
-use Rattle.brd_command.specs.RaceCommand.WritesRaceFront.{in_journal, in_report}
-use Rattle.brd_command.specs.RunCommand.{RunEnds}
+use Rattle.brd_running.specs.RaceCommand.{RaceEnds, ShowsRace, WritesRaceFront}
+use Rattle.brd_running.specs.RaceCommand.WritesRaceFront.{in_journal, in_report}
+use Rattle.brd_running.specs.RunCommand.{RunEnds}
 use Rattle.brd_inputs.specs.Start.{KeepsFromStarting}
 use Rattle.brd_inputs.specs.declared.fault.CommandFault.{CommandFault}
 use Rattle.brd_inputs.specs.declared.fault.CommandFault.TheVariants.{NoMemory, Source, ImageTooLarge}

@@ -7,9 +7,9 @@ use Rattle.brd_journal.specs.Journal.{JournalState, most_runs}
 use Rattle.brd_journal.specs.Reading.{journal_of}
 use Rattle.brd_command.specs.Laws.{IsAssembled, ShowsHeadline}
 use Rattle.brd_report.specs.Output.{Writes}
-use Rattle.brd_command.specs.RaceCommand.{RaceEnds, ShowsRace}
+use Rattle.brd_running.specs.RaceCommand.{RaceEnds, ShowsRace}
 use Rattle.brd_report.specs.Report.{report_of}
-use Rattle.brd_command.specs.RunCommand.{RunEnds, ShowsRun}
+use Rattle.brd_running.specs.RunCommand.{RunEnds, ShowsRun}
 use Rattle.brd_command.proofs.HeadlineLemmas.{of_run}
 use Rattle.brd_command.proofs.LengthLemmas.{is_within}
 

@@ -12,13 +12,13 @@ use Rattle.brd_gdb.specs.declared.request.Request.TheVariants.{StartNoAckMode, D
 use Rattle.brd_gdb.specs.declared.request.Request.TheVariants.{Forward, BackwardContinue, BackwardStep, Monitor}
 use Rattle.brd_stub.specs.Answers.{Shows}
 use Rattle.brd_stub.specs.declared.session.Session.{Session}
-use Rattle.brd_command.specs.DebugLine.{line_size}
+use Rattle.brd_running.specs.DebugLine.{line_size}
 use Rattle.brd_command.specs.GdbCommand.{EndsServing, IsCutOff, ServesCutShort, ServesFirst, ServesGdb, ServesToEnd, StopsServing}
 use Rattle.brd_command.specs.Serving.{AddsAnswer, AnswersPacket, HasServed, IsReady, IsShown, Serves, accepted}
 use Rattle.brd_command.specs.Serving.HasServed.{one_more as one_more_served}
-use Rattle.brd_command.specs.Lines.{CountsByte, KeepsFromTaking, TakesByte}
+use Rattle.brd_running.specs.Lines.{CountsByte, KeepsFromTaking, TakesByte}
 use Rattle.brd_command.specs.declared.gdb_server.Server.{Server}
-use Rattle.brd_command.specs.declared.lines.Taken.{Taken}
+use Rattle.brd_running.specs.declared.lines.Taken.{Taken}
 use Rattle.brd_inputs.specs.Input.{most_bytes}
 use Rattle.brd_inputs.specs.Start.{AreWithin, IsStart}
 use Rattle.brd_inputs.specs.declared.fault.CommandFault.{CommandFault}

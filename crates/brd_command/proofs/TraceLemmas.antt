@@ -40,7 +40,7 @@ use Rattle.brd_printer.specs.Words.{words_of}
 use Rattle.brd_printer.specs.declared.words.WordsFault.{WordsFault}
 use Rattle.brd_printer.specs.declared.words.WordsFault.TheVariants as no
 use Rattle.brd_command.specs.TraceCommand.{IsOfWords, KeepsFromAsking, of_words}
-use Rattle.brd_command.proofs.RaceLemmas.{keeps}
+use Rattle.brd_running.proofs.RaceLemmas.{keeps}
 
 pub traced : (it : Start) (result : Result Unit CommandFault) (options : TraceOptions) (old new : Option (List ℕ)) (image config text : Option (List ℕ))
     → IfSome image (λ i. IfSome config (λ c. IfSome text (λ j. AreWithin i c j × IsStart i c j it)))

@@ -5,7 +5,7 @@ use Rattle.brd_board.specs.Board.{after}
 use Rattle.brd_inputs.specs.FileKinds.{is_object_file}
 use Rattle.brd_report.specs.Output.{Writes}
 use Rattle.brd_try.specs.declared.options.TryOptions.{TryOptions}
-use Rattle.brd_command.specs.AsmCommand.{IsObjectFile}
+use Rattle.brd_running.specs.AsmCommand.{IsObjectFile}
 use Rattle.brd_command.specs.TryCommand.{ShowsTried, Tries}
 use Rattle.brd_command.proofs.HeadlineLemmas.{headline}
 

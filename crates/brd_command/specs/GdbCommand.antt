@@ -3,7 +3,7 @@ use Rattle.std.specs.Prelude.{◌≡◌, ◌≢◌, ◌⊎◌, ℕ, ◌<◌, Boo
 use Rattle.std.specs.IoError.{error_kind}
 use Rattle.std.specs.declared.io.Error.{Error}
 use Rattle.std.specs.declared.io.ErrorKind.TheVariants.{OutOfMemory, UnexpectedEof}
-use Rattle.brd_command.specs.Debugging.{GivesNoDebugger}
+use Rattle.brd_running.specs.Debugging.{GivesNoDebugger}
 use Rattle.brd_command.specs.Serving.{HasServed, IsReady, Serves}
 use Rattle.brd_command.specs.declared.gdb_server.Server.{Server}
 use Rattle.brd_inputs.specs.Input.{most_bytes}

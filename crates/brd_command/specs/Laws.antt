@@ -11,15 +11,15 @@ use Rattle.brd_image.specs.Headline.{Headline}
 use Rattle.brd_image.specs.declared.fault.BuildFault.TheVariants as build_fault
 use Rattle.brd_journal.specs.Journal.{JournalState, most_runs}
 use Rattle.brd_journal.specs.Reading.{journal_of}
-use Rattle.brd_command.specs.Answers.{Does, ended}
-use Rattle.brd_command.specs.AsmCommand.{AsmEnds}
-use Rattle.brd_command.specs.DebugLine.{commands_of}
-use Rattle.brd_command.specs.Debugging.{debugger_of}
+use Rattle.brd_running.specs.Answers.{Does, ended}
+use Rattle.brd_running.specs.AsmCommand.{AsmEnds}
+use Rattle.brd_running.specs.DebugLine.{commands_of}
+use Rattle.brd_running.specs.Debugging.{debugger_of}
 use Rattle.brd_report.specs.Output.{Writes, WritesFront}
 use Rattle.brd_report.specs.Report.{number_line, report_of}
 use Rattle.brd_inputs.specs.Start.{IsStart}
-use Rattle.brd_command.specs.declared.debug_line.DebugCommand.{DebugCommand}
-use Rattle.brd_command.specs.declared.debug_line.DebugCommand.TheVariants.{Goto, Next, Back, Quit}
+use Rattle.brd_running.specs.declared.debug_line.DebugCommand.{DebugCommand}
+use Rattle.brd_running.specs.declared.debug_line.DebugCommand.TheVariants.{Goto, Next, Back, Quit}
 use Rattle.brd_inputs.specs.declared.fault.CommandFault.{CommandFault}
 use Rattle.brd_inputs.specs.declared.fault.CommandFault.TheVariants.{NoMemory, Source, Read, TooLong, TooManyReads}
 use Rattle.brd_inputs.specs.declared.fault.CommandFault.TheVariants.{Build}

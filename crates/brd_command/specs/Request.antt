@@ -3,13 +3,14 @@
 -- holds that is written; `unread` says what standard input has left to read, `written` what standard output has taken.
 use Rattle.std.specs.Prelude.{◌≡◌, ℕ, List, Option, option_map, IfSome, Result}
 use Rattle.std.specs.declared.io.Error.{Error}
-use Rattle.brd_command.specs.Files.{AsmFilesEnd, RunFilesEnd, RaceFilesEnd, DebugFilesEnd, TraceFilesEnd}
-use Rattle.brd_command.specs.ExploreCommand.{ExploreFilesEnd}
+use Rattle.brd_running.specs.Files.{AsmFilesEnd, RunFilesEnd, RaceFilesEnd, DebugFilesEnd}
+use Rattle.brd_command.specs.TraceFiles.{TraceFilesEnd}
+use Rattle.brd_running.specs.ExploreCommand.{ExploreFilesEnd}
 use Rattle.brd_command.specs.GdbCommand.{GdbFilesEnd}
 use Rattle.brd_command.specs.JournalCommand.{JournalEnds}
-use Rattle.brd_command.specs.ShrinkCommand.{ShrinkFilesEnd}
+use Rattle.brd_running.specs.ShrinkCommand.{ShrinkFilesEnd}
 use Rattle.brd_command.specs.TryCommand.{TryFilesEnd}
-use Rattle.brd_command.specs.WordsCommand.{WordsEnds}
+use Rattle.brd_running.specs.WordsCommand.{WordsEnds}
 use Rattle.brd_inputs.specs.declared.fault.CommandFault.{CommandFault}
 use Rattle.brd_command.specs.declared.request.Request.{Request}
 use Rattle.brd_command.specs.declared.request.Request.TheVariants.{Words, Asm, Run, Race, Debug, Trace, Journal}

@@ -22,8 +22,8 @@ use Rattle.brd_try.specs.Told.{IsTold}
 use Rattle.brd_try.specs.Tries.{IsTried, KeepsFromTrying}
 use Rattle.brd_try.specs.Turns.{steps_in}
 use Rattle.brd_try.specs.declared.options.TryOptions.{TryOptions}
-use Rattle.brd_command.specs.AsmCommand.{IsObjectFile, KeepsFromAssembling}
-use Rattle.brd_command.specs.Saving.{Saves}
+use Rattle.brd_running.specs.AsmCommand.{IsObjectFile, KeepsFromAssembling}
+use Rattle.brd_running.specs.Saving.{Saves}
 
 -- the object file that is tried: what was read, where that looks like one, else that of the source that was read
 abbrev pub IsObjectOf : List ℕ → List ℕ → Type 0

@@ -4,10 +4,10 @@ ghost use Rattle.std.specs.Prelude.{IfSome};
 ghost use Rattle.brd_command.specs.GdbCommand.{EndsServing, GdbEnds, GdbFilesEnd, IsCutOff};
 
 use crate::gdb_server::Server;
-use crate::lines::{Taken, next_byte};
 use brd_inputs::{CommandFault, Files, InputName, Inputs, open_inputs, read_start};
 use brd_progress::Progress;
 use brd_report::write_whole;
+use brd_running::{Taken, next_byte};
 use std::alloc::Global;
 use std::io::{self, ErrorKind, Read, Write};
 

@@ -9,7 +9,6 @@ ghost use Rattle.brd_deeds.specs.Racing.{IsRaced};
 ghost use Rattle.brd_command.specs.RacesCommand.{MayStop, fault_of};
 ghost use Rattle.brd_command.specs.TraceCommand.{EndsRacing};
 
-use crate::progress::PIECE;
 use crate::trace_command::written;
 use brd_base::{List, NoMemory};
 use brd_board::Board;
@@ -20,6 +19,7 @@ use brd_journal::Journal;
 use brd_names::{Names, put_races};
 use brd_order::{OrderFault, Race};
 use brd_progress::Progress;
+use brd_running::PIECE;
 use std::alloc::Global;
 use std::io::Write;
 

@@ -2,21 +2,18 @@
 
 ghost use Rattle.brd_command.specs.Request.{RequestEnds};
 
-use crate::asm_command::asm_files;
-use crate::debug_command::debug_files;
-use crate::explore_command::explore_files;
 use crate::gdb_command::gdb_files;
 use crate::journal_command::journal;
 use crate::journal_options::JournalOptions;
-use crate::race_command::race_files;
-use crate::run_command::run_files;
-use crate::shrink_command::{ShrinkOptions, shrink_files};
 use crate::trace_command::trace_files;
 use crate::trace_options::TraceOptions;
 use crate::try_command::try_files;
-use crate::words_command::words;
 use brd_inputs::{CommandFault, Files};
 use brd_progress::Progress;
+use brd_running::{
+    ShrinkOptions, asm_files, debug_files, explore_files, race_files, run_files, shrink_files,
+    words,
+};
 use brd_search::SearchOptions;
 use brd_try::TryOptions;
 use std::alloc::Global;

@@ -8,7 +8,6 @@ ghost use Rattle.brd_stacks.specs.Following.{IsFollowed};
 ghost use Rattle.brd_command.specs.StacksCommand.{WritesStacks};
 ghost use Rattle.brd_command.specs.TraceCommand.{IsOfWriting};
 
-use crate::progress::PIECE;
 use crate::trace_command::written;
 use brd_base::NoMemory;
 use brd_board::Board;
@@ -17,6 +16,7 @@ use brd_inputs::CommandFault;
 use brd_journal::Journal;
 use brd_mem::Image;
 use brd_progress::Progress;
+use brd_running::PIECE;
 use brd_stacks::{Following, put_stacks, stacks_of};
 use std::alloc::Global;
 use std::io::Write;

@@ -4,7 +4,7 @@ ghost use Rattle.std.specs.Prelude.{◌≡◌, ◌<◌, ◌≤◌, length, [], I
 ghost use Rattle.std.specs.Io.KnownBytes.{Appends};
 ghost use Rattle.brd_timeline.specs.Ends.{EndsWith};
 ghost use Rattle.brd_report.specs.Output.{Writes};
-ghost use Rattle.brd_command.specs.Files.{TraceFilesEnd};
+ghost use Rattle.brd_command.specs.TraceFiles.{TraceFilesEnd};
 ghost use Rattle.brd_command.specs.TraceCommand.{
   EndsDrawing,
   EndsPaging,
@@ -28,7 +28,6 @@ ghost use Rattle.brd_trace.specs.Recorded.{begun_of};
 ghost use Rattle.brd_printer.specs.Telling.{IsTrace};
 ghost use Rattle.brd_printer.specs.Words.{Adds};
 
-use crate::progress::PIECE;
 use crate::races_command::write_races;
 use crate::stacks_command::write_stacks;
 use crate::trace_options::{TraceFormat, TraceOptions};
@@ -45,6 +44,7 @@ use brd_page::{PageFault, page};
 use brd_printer::{Manner, Options, WordsFault, add_words};
 use brd_progress::Progress;
 use brd_report::write_whole;
+use brd_running::PIECE;
 use brd_summary::{put_end, put_summary};
 use brd_timeline::{PictureFault, Timeline, json, svg};
 use brd_trace::Tracer;

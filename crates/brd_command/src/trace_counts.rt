@@ -5,13 +5,13 @@ ghost use Rattle.brd_timeline.specs.Ends.{EndsWith};
 ghost use Rattle.brd_report.specs.Output.{Writes};
 ghost use Rattle.brd_command.specs.TraceCommand.{IsOfWriting};
 
-use crate::progress::PIECE;
 use crate::trace_command::{Traced, written};
 use brd_base::NoMemory;
 use brd_cover::{Counting, Sources, put_callgrind, put_lcov};
 use brd_inputs::CommandFault;
 use brd_lines::Source;
 use brd_progress::Progress;
+use brd_running::PIECE;
 use brd_trace::Tracer;
 use std::io::Write;
 

@@ -3,13 +3,10 @@
 ghost use Rattle.std.specs.Prelude.{◌≡◌, ◌++◌, false, IfOk, IfSome, MatchResult, option_map, string_bytes};
 ghost use Rattle.brd_command.specs.TryCommand.{IsObjectOf, IsTriedOf, KeepsFromPaging, KeepsFromTryingIt};
 ghost use Rattle.brd_command.specs.TryCommand.{RefusesTrying, SavesBoth, SavesPage, Tries, TryFilesEnd};
-ghost use Rattle.brd_command.specs.AsmCommand.{KeepsFromAssembling};
+ghost use Rattle.brd_running.specs.AsmCommand.{KeepsFromAssembling};
 ghost use Rattle.brd_inputs.specs.FileKinds.{is_object_file as looks_like_one};
 ghost use Rattle.brd_page.specs.Page.{IsRunPage};
 
-use crate::asm_command::object_file;
-use crate::mistakes::with_others;
-use crate::saving::save;
 use crate::trace_command::lines_of;
 use brd_base::NoMemory;
 use brd_inputs::{
@@ -19,6 +16,7 @@ use brd_inputs::{
 use brd_page::{PageFault, Part, page};
 use brd_printer::Options;
 use brd_report::write_whole;
+use brd_running::{object_file, save, with_others};
 use brd_trace::Tracer;
 use brd_try::{TryOptions, try_object};
 use std::alloc::Global;

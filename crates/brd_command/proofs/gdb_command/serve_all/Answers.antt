@@ -1,7 +1,7 @@
 use Rattle.std.proofs.Common.{ℕ, [], sym, subst, true≢false, arith}
 use Rattle.std.specs.Prelude.{Option}
 use Rattle.brd_command.specs.Serving.HasServed.{nothing_yet}
-use Rattle.brd_command.specs.Lines.{CountsByte}
+use Rattle.brd_running.specs.Lines.{CountsByte}
 use Rattle.brd_command.proofs.ServerLemmas.{cut_off, front_served, last_served, memory_ran_out, more_served, stopped}
 use Rattle.brd_report.proofs.OutputLemmas as output
 use Rattle.brd_command.proofs.gdb_command.serve_all.Goals as goal

@@ -1,7 +1,7 @@
 -- What was written answers the bytes before those that are left.
 use Rattle.std.proofs.Common.{◌≡◌, ◌-◌, ◌≤◌, List, ℕ}
 use Rattle.std.specs.Prelude.{Some}
-use Rattle.brd_command.specs.Lines.{KnowsEnd}
+use Rattle.brd_running.specs.Lines.{KnowsEnd}
 use Rattle.brd_command.proofs.ServerLemmas.{IsServed}
 use Rattle.brd_command.proofs.gdb_command.serve_all.Given as goal
 

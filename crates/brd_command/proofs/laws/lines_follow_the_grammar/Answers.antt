@@ -1,4 +1,4 @@
-use Rattle.brd_command.proofs.DebugLineLemmas.{again, says, unknown_says, says_unknown}
+use Rattle.brd_running.proofs.DebugLineLemmas.{again, says, unknown_says, says_unknown}
 use Rattle.brd_command.proofs.laws.lines_follow_the_grammar.Goals as goal
 
 pub returns-clause-says : goal.returns-clause-says

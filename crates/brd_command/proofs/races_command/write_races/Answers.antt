@@ -14,7 +14,7 @@ use Rattle.brd_order.specs.Races.{AreRaces}
 use Rattle.brd_deeds.specs.Deeds.{deeds_of_run}
 use Rattle.brd_names.specs.declared.names.Names.{Names}
 use Rattle.brd_names.specs.Races.{races_text}
-use Rattle.brd_command.proofs.RaceLemmas.{keeps}
+use Rattle.brd_running.proofs.RaceLemmas.{keeps}
 use Rattle.brd_command.specs.RacesCommand.{MayStop, fault_of}
 use Rattle.brd_command.specs.TraceCommand.{EndsRacing, IsOfWriting}
 use Rattle.brd_command.proofs.races_command.write_races.Goals as goal

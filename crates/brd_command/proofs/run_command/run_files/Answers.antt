@@ -1,9 +1,0 @@
-use Rattle.std.proofs.Common.{refl}
-use Rattle.brd_command.specs.Files.RunFilesEnd.{not_opened, ended}
-use Rattle.brd_command.proofs.run_command.run_files.Goals as goal
-
-pub returns-in-Err : goal.returns-in-Err
-returns-in-Err g c = not_opened c.in-Err.ensures refl refl
-
-pub returns : goal.returns
-returns g c = ended c.in-Ok.ensures c.run.ensures

@@ -1,0 +1,10 @@
+pub mod AnswerLemmas
+pub mod DebugLineLemmas
+pub mod ExploreLemmas
+pub mod LineLemmas
+pub mod RaceLemmas
+pub mod RunLemmas
+pub mod SavingLemmas
+pub mod ShrinkLemmas
+pub mod TurnsLemmas
+pub mod WordTextLemmas

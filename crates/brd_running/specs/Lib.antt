@@ -1,0 +1,15 @@
+pub mod Answers
+pub mod AsmCommand
+pub mod DebugGrammar
+pub mod DebugLine
+pub mod Debugging
+pub mod ExploreCommand
+pub mod Files
+pub mod Lines
+pub mod RaceCommand
+pub mod RunCommand
+pub mod Saving
+pub mod ShrinkCommand
+pub mod Turns
+pub mod WordText
+pub mod WordsCommand

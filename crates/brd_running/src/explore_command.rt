@@ -1,0 +1,224 @@
+//! The command `explore`.
+
+ghost use Rattle.std.specs.Prelude.{◌≡◌, ◌++◌, codes, option_map, IfOk, IfSome, MatchResult, None, Some};
+ghost use Rattle.brd_running.specs.ExploreCommand.{Explores, ExploreFilesEnd, IsTold, KeepsFromSearching};
+ghost use Rattle.brd_running.specs.ExploreCommand.{Begins, RefusesExploring, Tells};
+ghost use Rattle.brd_running.specs.Saving.{IsOfJournal};
+ghost use Rattle.brd_search.specs.Shown.{shown};
+ghost use Rattle.brd_board.specs.Board.{BoardState};
+
+use crate::saving::{is_over, journal_text, save};
+use brd_base::NoMemory;
+use brd_board::{Board, Event};
+use brd_explore::{Counts, Watch};
+use brd_inputs::{CommandFault, Files, Loaded, Pair, open_pair, read_board};
+use brd_mem::Symbol;
+use brd_progress::Progress;
+use brd_report::write_whole;
+use brd_search::{
+    Plan, SearchFault, SearchOptions, plan_of, put_found, put_none, search, shown_events,
+};
+use brd_threads::processors;
+use std::alloc::Global;
+use std::io::{Read, Write};
+
+/// With what the text begins that tells of a schedule that fails.
+const FAILS: &[u8] = b"fails ";
+
+/// With what the text begins that says that none fails.
+const NONE: &[u8] = b"none of ";
+
+/// What is told of a search.
+#[derive(Drop)]
+struct Told {
+    /// What it came to, in words.
+    text: Vec<u8>,
+    /// The text of the journal after which a board fails, if there is one.
+    journal: Option<Vec<u8>>,
+}
+
+/// Reads an object file and a configuration to their ends, in this order, and searches the schedules of the board that
+/// they make for one that fails. Writes what that came to, and answers the text of the journal of one that fails, if
+/// there is one. Nothing is written where what was read or the options have a fault. How many schedules were tried is
+/// told on the way.
+pub fn explore<R: Read, W: Write, P: Progress>(
+    alloc: Global,
+    pair: &mut Pair<R>,
+    options: SearchOptions<'_>,
+    writer: &mut W,
+    progress: &mut P,
+) -> Result<Option<Vec<u8>>, CommandFault>
+    ensures { IfSome (R.remaining pair.old.image) (λ file. IfSome (R.remaining pair.old.config) (λ statements.
+        MatchResult result
+        (λ journal. Explores options.entry file statements (option_map (λ text. text.items) journal)
+        (W.contents writer.old) (W.contents writer.new))
+        (RefusesExploring options.entry file statements (W.contents writer.old) (W.contents writer.new)))) }
+{
+    let loaded = match read_board(alloc, pair) {
+        Ok(loaded) => loaded,
+        Err(fault) => return Err(fault),
+    };
+    let told = match told_of(alloc, &loaded, options, progress) {
+        Ok(told) => told,
+        Err(fault) => return Err(fault),
+    };
+    progress.hide();
+    match write_whole(writer, &told.text) {
+        Ok(()) => Ok(told.journal),
+        Err(error) => Err(CommandFault::Write(error)),
+    }
+}
+
+/// Does `explore` on its files: IMAGE is opened, then CONFIG, and both are read. OUT may be neither. If a schedule was
+/// found that fails, OUT, if it is named, is created or emptied after that is told, and gets the journal; the command
+/// then ends as one that has found a failure does.
+pub fn explore_files<F: Files, W: Write, P: Progress>(
+    alloc: Global,
+    files: &mut F,
+    image: &str,
+    config: &str,
+    options: SearchOptions<'_>,
+    out: Option<&str>,
+    output: &mut W,
+    progress: &mut P,
+) -> Result<(), CommandFault>
+    ensures { ExploreFilesEnd F.opened F.created F.closed F.Input.remaining F.Output.contents
+        files.old image.now config.now options.entry (option_map (λ name. name.now) out.entry)
+        (W.contents output.old) (W.contents output.new) result files.new }
+{
+    if is_over(out, image, config) {
+        return Err(CommandFault::Search(SearchFault::OverInput));
+    }
+    let mut pair = match open_pair(alloc, files, image, config) {
+        Ok(pair) => pair,
+        Err(fault) => return Err(fault),
+    };
+    let journal = match explore(alloc, &mut pair, options, output, progress) {
+        Ok(Some(journal)) => journal,
+        Ok(None) => return Ok(()),
+        Err(fault) => return Err(fault),
+    };
+    match save(alloc, files, out, &journal) {
+        Ok(()) => Err(CommandFault::Fails),
+        Err(fault) => Err(fault),
+    }
+}
+
+/// What is told of the search that options ask for.
+fn told_of<P: Progress>(
+    alloc: Global,
+    loaded: &Loaded,
+    options: SearchOptions<'_>,
+    progress: &mut P,
+) -> Result<Told, CommandFault>
+    ensures { MatchResult result
+        (λ told. IsTold options.entry loaded.now told.text.items (option_map (λ text. text.items) told.journal))
+        (KeepsFromSearching options.entry loaded.now) }
+{
+    let symbols = loaded.image.symbols.as_slice();
+    let cpus = processors(&loaded.board) as u8;
+    let plan = match plan_of(alloc, &options, &loaded.board, cpus, symbols) {
+        Ok(plan) => plan,
+        Err(fault) => return Err(CommandFault::of_search(fault)),
+    };
+    let mut watch = Searching::new(progress);
+    let searched = search(alloc, &loaded.board, &plan, &mut watch)?;
+    match searched.schedule {
+        Some(events) => told_found(alloc, &loaded.board, symbols, &plan, &events),
+        None => Ok(told_none(alloc, symbols, &plan, searched.counts)?),
+    }
+}
+
+/// What is told where no schedule fails.
+fn told_none(
+    alloc: Global,
+    symbols: &[Symbol],
+    plan: &Plan,
+    counts: Counts,
+) -> Result<Told, NoMemory>
+    ensures { (board : BoardState) → IfOk result
+        (λ told. Tells plan.now board None told.text.items (option_map (λ text. text.items) told.journal)) }
+{
+    let mut rest = Vec::new(alloc);
+    put_none(alloc, symbols, plan, counts, &mut rest)?;
+    let text = joined(alloc, NONE, &rest)?;
+    Ok(Told {
+        text,
+        journal: None,
+    })
+}
+
+/// What is told of a schedule that fails, and its journal.
+fn told_found(
+    alloc: Global,
+    board: &Board,
+    symbols: &[Symbol],
+    plan: &Plan,
+    events: &[Event],
+) -> Result<Told, CommandFault>
+    ensures { MatchResult result
+        (λ told. Tells plan.now board.now (Some events.now) told.text.items
+        (option_map (λ text. text.items) told.journal))
+        (IsOfJournal (shown plan.now.wanted board.now events.now)) }
+{
+    let text = text_found(alloc, board, symbols, plan, events)?;
+    let shown = shown_events(alloc, &plan.wanted, board, events)?;
+    match journal_text(alloc, board.order(), &shown) {
+        Ok(journal) => Ok(Told {
+            text,
+            journal: Some(journal),
+        }),
+        Err(fault) => Err(fault),
+    }
+}
+
+/// A schedule that fails, in words.
+fn text_found(
+    alloc: Global,
+    board: &Board,
+    symbols: &[Symbol],
+    plan: &Plan,
+    events: &[Event],
+) -> Result<Vec<u8>, NoMemory>
+    ensures { IfOk result (λ text. Begins (codes "fails ") text.items) }
+{
+    let mut rest = Vec::new(alloc);
+    put_found(alloc, symbols, board, &plan.wanted, events, &mut rest)?;
+    joined(alloc, FAILS, &rest)
+}
+
+/// A text after another one.
+fn joined(alloc: Global, front: &[u8], rest: &[u8]) -> Result<Vec<u8>, NoMemory>
+    ensures { IfOk result (λ text. text.items ≡ front.now ++ rest.now) }
+{
+    let mut text = Vec::from_slice(alloc, front)?;
+    text.extend_from_slice(rest)?;
+    Ok(text)
+}
+
+/// How many schedules are tried before it is told anew how many were tried (own choice).
+const PIECE: u64 = 256;
+
+/// What tells a progress how many schedules a search has tried.
+#[derive(Drop)]
+struct Searching<'a, P> {
+    progress: &'a mut P,
+    /// How many were tried when it was told last.
+    told: u64,
+}
+
+impl<'a, P: Progress> Searching<'a, P> {
+    /// A search that begins.
+    fn new(progress: &'a mut P) -> Searching<'a, P> {
+        Searching { progress, told: 0 }
+    }
+}
+
+impl<'a, P: Progress> Watch for Searching<'a, P> {
+    fn tried(&mut self, schedules: u64) {
+        if schedules / PIECE != self.told / PIECE {
+            self.told = schedules;
+            self.progress.tried(schedules);
+        }
+    }
+}
