@@ -14,3 +14,5 @@ pub mod LinkLemmas
 pub mod EndLemmas
 pub mod StartLemmas
 pub mod SteadyLemmas
+pub mod LagLemmas
+pub mod ReduceLemmas

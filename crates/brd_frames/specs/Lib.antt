@@ -6,3 +6,5 @@ pub mod Going
 pub mod Commuting
 pub mod Linking
 pub mod Ending
+pub mod Lagging
+pub mod Reducing
