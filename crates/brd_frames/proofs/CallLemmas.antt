@@ -260,7 +260,7 @@ ok-row : {X : Type 0} (it : Row X) (does : X → Result Served Ercd) → ((x : X
     is_ok (served it) ≡ is_ok (served (record it { does = does }))
 ok-row it does same = ok-refused it.bad_id Id _ _ (ok-refused it.bad_par Par _ _ (ok-object it does it.object same))
 
-pub terminates-with : (f g : Contexts) (k : KernelState) (cpu by id : ℕ) →
+terminates-with : (f g : Contexts) (k : KernelState) (cpu by id : ℕ) →
     is_ok (served (ter_tsk k cpu by id)) ≡ is_ok (served (ter_tsk (k-with f g k) cpu by id))
 unfolding is_held_elsewhere
 terminates-with f g k cpu by id = ok-row (ter_tsk k cpu by id) _ (λ task. refl)

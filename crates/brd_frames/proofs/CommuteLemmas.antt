@@ -41,7 +41,7 @@ after-join b (event ∷ first) second = after-join (happens b event).board first
 
 -- The context of an agent that an event is apart from stays.
 
-pub put-own : (k : KernelState) (who : Agent) → with_context_in k who (context_in k who) ≡ k
+put-own : (k : KernelState) (who : Agent) → with_context_in k who (context_in k who) ≡ k
 put-own k (agents.Task id) = ap (λ contexts. record k { tasks = record k.tasks { contexts = contexts } }) (set-get_or k.tasks.contexts id no_context)
 put-own k (agents.Handler cpu) = ap (λ contexts. record k { handler_contexts = contexts }) (set-get_or k.handler_contexts cpu no_context)
 

@@ -17,9 +17,7 @@ use Rattle.brd_kernel.specs.declared.processor.Executor.{Executor}
 use Rattle.brd_kernel.specs.declared.processor.Executor.TheVariants as executor
 use Rattle.brd_kernel.specs.Kernel.{KernelState, deliverable, executor_on, context_of, context_on}
 use Rattle.brd_kernel.specs.declared.call.Call.{Call}
-use Rattle.brd_kernel.specs.declared.call.Call.TheVariants as call
-use Rattle.brd_kernel.specs.Row.{served}
-use Rattle.brd_kernel.specs.Services.{ter_tsk, caller_on, serve_by}
+use Rattle.brd_kernel.specs.Services.{caller_on, serve_by}
 use Rattle.brd_sysgate.specs.Gate.{caller_of, read_of}
 use Rattle.brd_board.specs.declared.event.Event.{Event}
 use Rattle.brd_board.specs.declared.event.Event.TheVariants.{Step, Tick, Raise}
@@ -27,21 +25,18 @@ use Rattle.brd_board.specs.declared.event.Report.TheVariants as report
 use Rattle.brd_board.specs.Board.{BoardState, Happened, happens, registers_of}
 use Rattle.brd_frames.specs.Agents as agents
 use Rattle.brd_frames.specs.Agents.{Agent, agent_by, agent_on, context_in, with_context_in, with_agent, happened_with}
-use Rattle.brd_frames.specs.Apart.{is_steady, Calls, Terminates, starts, Starts, Executes, IsApart}
+use Rattle.brd_frames.specs.Apart.{is_steady, Calls, starts, Starts, Executes, IsApart}
 use Rattle.brd_frames.specs.Touching.{is_among, accesses_next, touches, stores, stores_next, Agree, executing, touched_in, stored_in, is_touched, is_stored, Change, changed, with_change, LeavesAlone, IsClearOf, put_at}
 use Rattle.brd_frames.specs.Going.{Gone, goes, with_gone}
 use Rattle.brd_frames.specs.Commuting.{agent_goes, IsIndependent}
-use Rattle.brd_frames.specs.Ending.{is_live_at}
-use Rattle.brd_frames.specs.Lagging.{Sharing, Keeps, IsInvisible, is_alive, MayLag, Lags, Path, is_same_agent, without}
-use Rattle.brd_frames.specs.Reducing.{EndsMortals}
+use Rattle.brd_frames.specs.Lagging.{Sharing, Keeps, IsInvisible, Lags, Path, is_same_agent, without}
 use Rattle.brd_frames.proofs.DeedLemmas.{next-same}
-use Rattle.brd_frames.proofs.FootprintLemmas.{footprint, PutsAt, with-bytes-is, put-change, put-clear, put-keeps, put-length, stores-touches, Outside}
-use Rattle.brd_frames.proofs.CallLemmas.{starts-with, terminates-with}
+use Rattle.brd_frames.proofs.FootprintLemmas.{PutsAt, with-bytes-is, put-change, put-clear, put-keeps, put-length, stores-touches, Outside}
+use Rattle.brd_frames.proofs.CallLemmas.{starts-with}
 use Rattle.brd_frames.proofs.FrameLemmas.{frame}
 use Rattle.brd_frames.proofs.GoingLemmas.{Puts, goes-puts, context-by}
 use Rattle.brd_frames.proofs.StartLemmas.{calls-so}
 use Rattle.brd_frames.proofs.SteadyLemmas.{steady-on}
-use Rattle.brd_frames.proofs.EndLemmas.{lives-on}
 use Rattle.brd_frames.proofs.CommuteLemmas.{some-gone, gone-board, stored-at, context-kept, agree-after, apart-changed, independent}
 
 false-by : (x : Bool) → (x ≡ true → ⊥) → x ≡ false
@@ -283,34 +278,18 @@ steady-put k (agents.Handler cpu) (agents.Handler at) s = refl
 pub leads-steady : (b : BoardState) (who : Agent) (new : BoardState) (z : Agent) → Leads b who new → is_steady new.kernel z ≡ is_steady b.kernel z
 leads-steady b who new z it = ap (λ k. is_steady k z) (leads-kernel b who new it) ∙ steady-put b.kernel who z it.gone.context
 
-alive-put : (k : KernelState) (who z : Agent) (s : State) → is_alive (with_context_in k who s) z ≡ is_alive k z
-alive-put k (agents.Task id) (agents.Task at) s = refl
-alive-put k (agents.Task id) (agents.Handler at) s = refl
-alive-put k (agents.Handler cpu) (agents.Task at) s = refl
-alive-put k (agents.Handler cpu) (agents.Handler at) s = refl
-
-pub leads-alive : (b : BoardState) (who : Agent) (new : BoardState) (z : Agent) → Leads b who new → is_alive new.kernel z ≡ is_alive b.kernel z
-leads-alive b who new z it = ap (λ k. is_alive k z) (leads-kernel b who new it) ∙ alive-put b.kernel who z it.gone.context
-
-may-lag : (by : Sharing) (b : BoardState) (who : Agent) (new : BoardState) (z : Agent) → Leads b who new → MayLag by b.kernel z →
-    MayLag by new.kernel z
-may-lag by b who new z it may = record {
-  steady = leads-steady b who new z it ∙ may.steady;
-  mortal = λ is. may.mortal (sym (leads-alive b who new z it) ∙ is);
-}
-
 -- Instructions of one agent come first.
 
 record Pushed (by : Sharing) (b : BoardState) (x y : Agent) (count : ℕ) (new : BoardState) : Type 0 where
   middle : BoardState
   path : Path by b y count middle
   last : IsInvisible by middle x new
-  may : MayLag by b.kernel x → MayLag by middle.kernel x
+  steady : is_steady middle.kernel x ≡ is_steady b.kernel x
 
 push : (by : Sharing) (b next new : BoardState) (x y : Agent) (count : ℕ) → IsInvisible by b x next → Path by next y count new →
     (y ≡ x → ⊥) → Pushed by b x y count new
 push by b next new x y zero one path apart =
-    record { middle = b; path = refl; last = subst (IsInvisible by b x) (sym path) one; may = λ it. it }
+    record { middle = b; path = refl; last = subst (IsInvisible by b x) (sym path) one; steady = refl }
 push by b next new x y (suc count) one path apart =
     let turned = swap by b next path.0 x y one path.1 apart in
     let rest = push by turned.middle path.0 new x y count turned.second path.2 apart in
@@ -318,10 +297,10 @@ push by b next new x y (suc count) one path apart =
       middle = rest.middle;
       path = (turned.middle, turned.first, rest.path);
       last = rest.last;
-      may = λ it. rest.may (may-lag by b y turned.middle x (leads b y turned.middle turned.first.goes) it);
+      steady = rest.steady ∙ leads-steady b y turned.middle x (leads b y turned.middle turned.first.goes);
     }
 
-pub same-so : (x y : Agent) → is_same_agent x y ≡ true → x ≡ y
+same-so : (x y : Agent) → is_same_agent x y ≡ true → x ≡ y
 same-so (agents.Task id) (agents.Task at) is = ap agents.Task (eqb-true id at is)
 same-so (agents.Task id) (agents.Handler at) is = absurd (false≢true is)
 same-so (agents.Handler cpu) (agents.Task at) is = absurd (false≢true is)
@@ -338,7 +317,7 @@ pub record Pulled (by : Sharing) (b : BoardState) (y : Agent) (steps : List Agen
   pub lags : Lags by middle (without y steps) new
 
 pull-if : (by : Sharing) (b next new : BoardState) (who y : Agent) (more : List Agent) (same : Bool) → is_same_agent who y ≡ same →
-    IsInvisible by b who next → MayLag by b.kernel who → Pulled by next y more new →
+    IsInvisible by b who next → is_steady b.kernel who ≡ true → Pulled by next y more new →
     (count : ℕ) × (middle : BoardState) × Path by b y count middle
     × Lags by middle (if same then without y more else who ∷ without y more) new
 pull-if by b next new who y more true is one steady rest =
@@ -346,7 +325,7 @@ pull-if by b next new who y more true is one steady rest =
 pull-if by b next new who y more false is one steady rest =
     let pushed = push by b next rest.middle who y rest.count one rest.path
     (λ same. true≢false (sym (ap (is_same_agent who) same ∙ same-own who) ∙ is)) in
-    (rest.count, pushed.middle, pushed.path, (rest.middle, pushed.last, pushed.may steady, rest.lags))
+    (rest.count, pushed.middle, pushed.path, (rest.middle, pushed.last, pushed.steady ∙ steady, rest.lags))
 
 pub pull : (by : Sharing) (b new : BoardState) (y : Agent) (steps : List Agent) → Lags by b steps new → Pulled by b y steps new
 pull by b new y [] lags = record { count = 0; middle = b; path = refl; lags = lags }
@@ -477,41 +456,18 @@ task-put : (k : KernelState) (who : Agent) (s : State) (id : ℕ) → task_at (w
 task-put k (agents.Task at) s id = refl
 task-put k (agents.Handler at) s id = refl
 
-terminates-put : (k : KernelState) (who : Agent) (s : State) (cpu id : ℕ) →
-    is_ok (served (ter_tsk k cpu (caller_on k cpu) id))
-    ≡ is_ok (served (ter_tsk (with_context_in k who s) cpu (caller_on (with_context_in k who s) cpu) id))
-terminates-put k (agents.Task at) s cpu id = terminates-with (λ xs. slice_set xs at s) (λ xs. xs) k cpu (caller_on k cpu) id
-terminates-put k (agents.Handler at) s cpu id = terminates-with (λ xs. xs) (λ xs. slice_set xs at s) k cpu (caller_on k cpu) id
-
--- A call of another agent is the same with another context of this one, if it is reported so.
-
-calls-back : (b : BoardState) (who : Agent) (s : State) (cpu : ℕ) (c : Call) → (Executes b (Step cpu) who → ⊥) →
-    (happens (with_agent b who s) (Step cpu)).report ≡ (happens b (Step cpu)).report → Calls (with_agent b who s) cpu c → Calls b cpu c
-calls-back b who s cpu c alone told it =
+starts-back : (b : BoardState) (who : Agent) (s : State) (event : Event) (z : Agent) → IsApart b event who → Starts (with_agent b who s) event z →
+    Starts b event z
+starts-back b who s event z apart it =
     let k : KernelState = b.kernel in
-    let so = calls-so (with_agent b who s) cpu it.address it.steps in
-    let on : executor_on k cpu ≡ Some so.who = sym (executor-put k who s cpu) ∙ so.executes in
-    let other : agent_by cpu so.who ≡ who → ⊥ = λ same. alone (record {
-      cpu = cpu;
-      steps = refl;
-      executes = ap (option_map (agent_by cpu)) on ∙ ap Some same;
-      uninterrupted = sym (deliverable-put k who s cpu) ∙ so.uninterrupted;
+    let so = calls-so (with_agent b who s) it.cpu it.calls.address it.calls.steps in
+    let on : executor_on k it.cpu ≡ Some so.who = sym (executor-put k who s it.cpu) ∙ so.executes in
+    let other : agent_by it.cpu so.who ≡ who → ⊥ = λ same. apart.elsewhere (record {
+      cpu = it.cpu;
+      steps = it.steps;
+      executes = ap (option_map (agent_by it.cpu)) on ∙ ap Some same;
+      uninterrupted = sym (deliverable-put k who s it.cpu) ∙ so.uninterrupted;
     }) in
-    record {
-      context = it.context;
-      address = it.address;
-      executes = sym (registers-put k who s cpu so.who on other) ∙ it.executes;
-      steps = sym told ∙ it.steps;
-      asks = sym (ap (read_of it.context) (gate-put k who s cpu)) ∙ it.asks;
-    }
-
-abbrev SameReport : BoardState → Agent → State → Event → Type 0
-SameReport b who s event = (happens (with_agent b who s) event).report ≡ (happens b event).report
-
-pub starts-back : (b : BoardState) (who : Agent) (s : State) (event : Event) (z : Agent) → (Executes b event who → ⊥) →
-    (happens (with_agent b who s) event).report ≡ (happens b event).report → Starts (with_agent b who s) event z → Starts b event z
-starts-back b who s event z alone told it =
-    let k : KernelState = b.kernel in
     let is : starts it.call (caller_on k it.cpu) it.id it.task ≡ true =
     sym (ap (λ n. starts it.call n it.id it.task) (caller-put k who s it.cpu)) ∙ it.starts in
     record {
@@ -521,50 +477,27 @@ starts-back b who s event z alone told it =
       task = it.task;
       is = it.is;
       steps = it.steps;
-      calls = calls-back b who s it.cpu it.call (λ acts. alone (subst (λ e. Executes b e who) (sym it.steps) acts))
-          (subst (SameReport b who s) it.steps told) it.calls;
+      calls = record {
+        context = it.calls.context;
+        address = it.calls.address;
+        executes = sym (registers-put k who s it.cpu so.who on other) ∙ it.calls.executes;
+        steps = ap (λ (e : Event). (happens b e).report) (sym it.steps)
+            ∙ sym (ap (λ (done : Happened). done.report) (frame b event who s apart))
+            ∙ ap (λ (e : Event). (happens (with_agent b who s) e).report) it.steps
+            ∙ it.calls.steps;
+        asks = sym (ap (read_of it.calls.context) (gate-put k who s it.cpu)) ∙ it.calls.asks;
+      };
       there = sym (task-put k who s it.id) ∙ it.there;
       starts = is;
       serves = serves-put k who s it.cpu it.id it.call it.task is ∙ it.serves;
     }
-
-pub terminates-back : (b : BoardState) (who : Agent) (s : State) (event : Event) (id : ℕ) → (Executes b event who → ⊥) →
-    (happens (with_agent b who s) event).report ≡ (happens b event).report → Terminates (with_agent b who s) event id → Terminates b event id
-terminates-back b who s event id alone told it = record {
-  cpu = it.cpu;
-  steps = it.steps;
-  calls = calls-back b who s it.cpu (call.TerTsk id) (λ acts. alone (subst (λ e. Executes b e who) (sym it.steps) acts))
-      (subst (SameReport b who s) it.steps told) it.calls;
-  serves = terminates-put b.kernel who s it.cpu id ∙ it.serves;
-}
-
-terminates-changed : (b : BoardState) (event : Event) (change : Change) (id : ℕ) → IsClearOf change (is_touched b event) →
-    Terminates (with_change b change) event id → Terminates b event id
-terminates-changed b event change id clear it = record {
-  cpu = it.cpu;
-  steps = it.steps;
-  calls = record {
-    context = it.calls.context;
-    address = it.calls.address;
-    executes = it.calls.executes;
-    steps = ap (λ (e : Event). (happens b e).report) (sym it.steps)
-        ∙ sym (ap (λ (done : Happened). done.report) (footprint b event change clear))
-        ∙ ap (λ (e : Event). (happens (with_change b change) e).report) it.steps
-        ∙ it.calls.steps;
-    asks = it.calls.asks;
-  };
-  serves = it.serves;
-}
-
-same-report : (b : BoardState) (who : Agent) (s : State) (event : Event) → IsApart b event who → SameReport b who s event
-same-report b who s event apart = ap (λ (done : Happened). done.report) (frame b event who s apart)
 
 apart-put : (b : BoardState) (who : Agent) (s : State) (event : Event) (z : Agent) → IsApart b event who → IsApart b event z →
     IsApart (with_agent b who s) event z
 apart-put b who s event z own apart = record {
   steady = steady-put b.kernel who z s ∙ apart.steady;
   elsewhere = λ it. apart.elsewhere (executes-back b who s event z it);
-  lasting = λ it. apart.lasting (starts-back b who s event z own.elsewhere (same-report b who s event own) it);
+  lasting = λ it. apart.lasting (starts-back b who s event z own it);
 }
 
 apart-next : (by : Sharing) (b : BoardState) (event : Event) (x z : Agent) (next : BoardState) → IsInvisible by b x next → IsIndependent b event x →
@@ -593,43 +526,6 @@ keeps-next by b event x next it apart keeps y acts =
     let own : Keeps by b y = keeps y back in
     sees-keeps by b next y (sees-later by b x y next it own (λ same. apart.elsewhere (subst (Executes b event) same back))) own
 
-mortals-next : (by : Sharing) (b : BoardState) (event : Event) (x : Agent) (next : BoardState) → IsInvisible by b x next →
-    IsIndependent b event x → EndsMortals by b event → EndsMortals by next event
-mortals-next by b event x next it free ends id ended =
-    let led = leads b x next it.goes in
-    let change : Change = put_at (led.put.first - base) led.put.bytes in
-    let clear : IsClearOf change (is_touched b event) =
-    put-clear led.put.first led.put.bytes (is_touched b event) led.put.puts.from
-    (λ address is. free.unread address (stored-at led.put.puts address is)) in
-    let apart : IsApart (with_change b change) event x = apart-changed b event x change clear free.apart in
-    ends id
-    (terminates-changed b event change id clear
-    (terminates-back (with_change b change) x led.gone.context event id apart.elsewhere
-    (same-report (with_change b change) x led.gone.context event apart)
-    (subst (λ (c : BoardState). Terminates c event id) led.is ended)))
-
--- who may lag may do so after an event that is apart from it
-
-mortal-by : (by : Sharing) (b : BoardState) (event : Event) (id : ℕ) (lives mortal : Bool) → is_live_at b id ≡ lives →
-    by.mortal (agents.Task id) ≡ mortal → (is_live_at b id ≡ false → by.mortal (agents.Task id) ≡ true) →
-    (Executes b event (agents.Task id) → ⊥) → EndsMortals by b event → is_live_at (happens b event).board id ≡ false →
-    by.mortal (agents.Task id) ≡ true
-mortal-by by b event id lives true live is may alone ends dead = is
-mortal-by by b event id false false live is may alone ends dead = may live
-mortal-by by b event id true false live is may alone ends dead =
-    absurd (true≢false (sym (lives-on b event id alone (λ ended. true≢false (sym (ends id ended) ∙ is)) live) ∙ dead))
-
-may-over : (by : Sharing) (b : BoardState) (event : Event) (who : Agent) → MayLag by b.kernel who → IsApart b event who → EndsMortals by b event →
-    MayLag by (happens b event).board.kernel who
-may-over by b event (agents.Task id) may apart ends = record {
-  steady = steady-on b event (agents.Task id) apart;
-  mortal = mortal-by by b event id (is_live_at b id) (by.mortal (agents.Task id)) refl refl may.mortal apart.elsewhere ends;
-}
-may-over by b event (agents.Handler cpu) may apart ends = record {
-  steady = steady-on b event (agents.Handler cpu) apart;
-  mortal = λ is. absurd (true≢false is);
-}
-
 -- each of these agents is apart from an event
 abbrev pub AllApart : BoardState → Event → List Agent → Type 0
 AllApart b event [] = Unit {0}
@@ -644,15 +540,15 @@ all-next by b event x next (who ∷ more) it free apart =
 -- An event that is apart from all that lag, and of somebody who keeps to the sharing, leaves one board behind the other
 -- by the same instructions, and reports the same.
 pub lags-over : (by : Sharing) (b new : BoardState) (event : Event) (steps : List Agent) → Lags by b steps new → EventKeeps by b event →
-    EndsMortals by b event → AllApart b event steps →
+    AllApart b event steps →
     Lags by (happens b event).board steps (happens new event).board × ((happens new event).report ≡ (happens b event).report)
-lags-over by b new event [] lags keeps ends apart =
+lags-over by b new event [] lags keeps apart =
     (ap (λ (x : BoardState). (happens x event).board) lags, ap (λ (x : BoardState). (happens x event).report) lags)
-lags-over by b new event (who ∷ more) lags keeps ends apart =
+lags-over by b new event (who ∷ more) lags keeps apart =
     let next : BoardState = lags.0 in
     let free : IsIndependent b event who = independent-so by b event who next lags.1 apart.0 keeps in
     let rest = lags-over by next new event more lags.3 (keeps-next by b event who next lags.1 apart.0 keeps)
-    (mortals-next by b event who next lags.1 free ends) (all-next by b event who next more lags.1 free apart.1) in (
-      ((happens next event).board, over by b event who next lags.1 free, may-over by b event who lags.2 apart.0 ends, rest.0),
+    (all-next by b event who next more lags.1 free apart.1) in (
+      ((happens next event).board, over by b event who next lags.1 free, steady-on b event who apart.0, rest.0),
       rest.1 ∙ (independent b next event who free lags.1.goes).1,
     )

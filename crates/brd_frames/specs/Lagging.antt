@@ -1,9 +1,7 @@
 -- Agents that lag: one board is another one on which some agents have yet to do instructions that nobody else can see.
 use Rattle.std.specs.Prelude.{◌≡◌, ℕ, zero, suc, ◌==◌, Bool, true, false, if◌then◌else◌, List, [], ◌∷◌, Option, None, Some, IfSome}
 use Rattle.brd_link.specs.LinkSet.{is_linked, is_same_block}
-use Rattle.brd_tasks.specs.Tasks.{task_at}
-use Rattle.brd_kernel.specs.Kernel.{KernelState}
-use Rattle.brd_frames.specs.Ending.{is_live}
+use Rattle.brd_kernel.specs.Kernel.{deliverable}
 use Rattle.brd_board.specs.declared.event.Event.{Event}
 use Rattle.brd_board.specs.declared.event.Event.TheVariants.{Step, Tick, Raise}
 use Rattle.brd_board.specs.Board.{BoardState, happens, after}
@@ -38,22 +36,12 @@ pub record IsInvisible (by : Sharing) (b : BoardState) (who : Agent) (new : Boar
   pub lasting : by.mortal who ≡ true → (address : ℕ) →
       stores (context_in b.kernel who) b.memory address ≡ false
 
--- whether an agent isn't dormant
-abbrev pub is_alive : KernelState → Agent → Bool
-is_alive k (agents.Task id) = is_live (task_at k.tasks id)
-is_alive k (agents.Handler cpu) = true
-
--- An agent may lag: it is steady, and where it is dormant it is one that others may start anew.
-pub record MayLag (by : Sharing) (k : KernelState) (who : Agent) : Type 0 where
-  pub steady : is_steady k who ≡ true
-  pub mortal : is_alive k who ≡ false → by.mortal who ≡ true
-
--- Of two boards the first one lags behind by instructions of these agents, one after the other: each of them may lag,
--- the instructions are invisible, and they lead from the first board to the second.
+-- Of two boards the first one lags behind by instructions of these agents, one after the other: all of them are steady,
+-- the instructions are invisible, and lead from the first board to the second.
 abbrev pub Lags : Sharing → BoardState → List Agent → BoardState → Type 0
 Lags by b [] new = new ≡ b
 Lags by b (who ∷ more) new =
-    (next : BoardState) × IsInvisible by b who next × MayLag by b.kernel who × Lags by next more new
+    (next : BoardState) × IsInvisible by b who next × (is_steady b.kernel who ≡ true) × Lags by next more new
 
 -- A path of so many invisible instructions of an agent, one after the other, from one board to another.
 abbrev pub Path : Sharing → BoardState → Agent → ℕ → BoardState → Type 0

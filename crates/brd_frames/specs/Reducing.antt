@@ -7,40 +7,32 @@ use Rattle.brd_kernel.specs.Always.{HasPlace}
 use Rattle.brd_board.specs.declared.event.Event.{Event}
 use Rattle.brd_board.specs.declared.event.Event.TheVariants.{Step}
 use Rattle.brd_board.specs.Board.{BoardState, happens, after}
-use Rattle.brd_frames.specs.Agents as agents
 use Rattle.brd_frames.specs.Agents.{Agent, agent_by}
-use Rattle.brd_frames.specs.Apart.{Terminates, Starts, Executes}
+use Rattle.brd_frames.specs.Apart.{is_steady, Starts, Executes}
 use Rattle.brd_frames.specs.Going.{IsNext}
 use Rattle.brd_frames.specs.Commuting.{EndsNoLink}
-use Rattle.brd_frames.specs.Lagging.{Sharing, Keeps, IsInvisible, MayLag, Lags, Path}
+use Rattle.brd_frames.specs.Lagging.{Sharing, Keeps, IsInvisible, Lags, Path}
 
 -- no agent executes an instruction in an event: a tick, a raise, an accepted interrupt, a step that does nothing
 abbrev pub IsQuiet : BoardState → Event → Type 0
 IsQuiet b event = (who : Agent) → Executes b event who → ⊥
 
--- whom an event terminates others may start anew
-abbrev pub EndsMortals : Sharing → BoardState → Event → Type 0
-EndsMortals by b event = (id : ℕ) → Terminates b event id → by.mortal (agents.Task id) ≡ true
-
 -- `In` says which boards are places of the tree.
 pub record IsTree (by : Sharing) (In : BoardState → Type 0) : Type 0 where
-  -- who executes has a context, and may lag
+  -- who executes has a context, and is steady
   pub contexts : (b : BoardState) (cpu : ℕ) (who : Executor) → In b → executor_on b.kernel cpu ≡ Some who →
       HasPlace b.kernel cpu who
-  pub lagging : (b : BoardState) (cpu : ℕ) (who : Executor) → In b → executor_on b.kernel cpu ≡ Some who →
-      MayLag by b.kernel (agent_by cpu who)
+  pub steady : (b : BoardState) (cpu : ℕ) (who : Executor) → In b → executor_on b.kernel cpu ≡ Some who →
+      is_steady b.kernel (agent_by cpu who) ≡ true
   -- a quiet event leads from a place to a place
   pub quiet : (b : BoardState) (event : Event) → In b → IsQuiet b event → In (happens b event).board
   -- From a place, after however many invisible instructions of whoever executes on a processor, the next one keeps to
-  -- the sharing and ends no link of others; and it is invisible too, or it leads to a place, terminates only whom others
-  -- may start anew, and starts one agent or none.
+  -- the sharing and ends no link of others; and it is invisible too, or leads to a place and starts nobody.
   pub blocks : (b middle : BoardState) (cpu : ℕ) (who : Agent) (count : ℕ) → In b → IsNext b cpu who →
       Path by b who count middle →
       Keeps by middle who × EndsNoLink middle cpu who
       × (((new : BoardState) × IsInvisible by middle who new)
-      ⊎ (In (happens middle (Step cpu)).board × EndsMortals by middle (Step cpu)
-      × (((other : Agent) × Starts middle (Step cpu) other)
-      ⊎ ((other : Agent) → Starts middle (Step cpu) other → ⊥))))
+      ⊎ (In (happens middle (Step cpu)).board × ((other : Agent) → Starts middle (Step cpu) other → ⊥)))
 
 -- a place of the tree that lags behind a board
 pub record Reaches (by : Sharing) (In : BoardState → Type 0) (b : BoardState) : Type 0 where
