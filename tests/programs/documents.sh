@@ -8,6 +8,18 @@ have python3 "the documents" || { summary; exit; }
 check_script "the walks" tests/programs/walks
 check_script "the picture of the crates" tests/programs/layers --check
 check_script "the links" tests/programs/links
+# The table of what the gate costs has a row for each crate, and for no other.
+rows() {
+    sed -nE 's/^\| ([a-z0-9]+_[a-z0-9_]+) \|.*/\1/p' tests/gate/gate.table | sort
+}
+crates() {
+    sed -nE 's/^([a-z0-9_]+)[^:#]*:.*/\1/p' crates.txt | sort
+}
+verdict "each crate has a row in tests/gate/gate.table" "$(
+    [ -n "$(crates)" ] || echo "crates.txt has no crates"
+    comm -23 <(crates) <(rows) | xargs -r echo "no row of"
+    comm -13 <(crates) <(rows) | xargs -r echo "no crate, but a row of")"
+
 keep_objects
 count_in "the commands of the documents" tests/programs/documents "$board"
 
