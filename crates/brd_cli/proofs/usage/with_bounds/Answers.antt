@@ -8,15 +8,15 @@ returns c =
     let with_1 = c.in_ok-arg.ensures.shape c.count.ensures.own ∙ ap₂ with_rule none c.count.ensures.rule in
     let with_2 = c.in_ok-arg-2.ensures.shape c.count-2.ensures.own ∙ ap₂ with_rule with_1 c.count-2.ensures.rule in
     let with_3 = c.in_ok-arg-3.ensures.shape c.count-3.ensures.own ∙ ap₂ with_rule with_2 c.count-3.ensures.rule in
-    let with_4 = c.in_ok-arg-4.ensures.shape c.count-4.ensures.own ∙ ap₂ with_rule with_3 c.count-4.ensures.rule in
-    let with_5 = c.in_ok-command.ensures.shape c.option.ensures.own ∙ ap₂ with_rule with_4 c.option.ensures.rule in
+    let with_4 = c.in_ok-arg-4.ensures.shape c.option.ensures.own ∙ ap₂ with_rule with_3 c.option.ensures.rule in
+    let with_5 = c.in_ok-command.ensures.shape c.option-2.ensures.own ∙ ap₂ with_rule with_4 c.option-2.ensures.rule in
     record {
       shape = with_5;
       globals = λ none_yet. rw (
         c.in_ok-command.ensures.globals,
-        c.option.ensures.own,
+        c.option-2.ensures.own,
         c.in_ok-arg-4.ensures.globals,
-        c.count-4.ensures.own,
+        c.option.ensures.own,
         c.in_ok-arg-3.ensures.globals,
         c.count-3.ensures.own,
         c.in_ok-arg-2.ensures.globals,
