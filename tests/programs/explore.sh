@@ -184,7 +184,7 @@ for source in peterson.s peterson_right.s; do
         wrong=$(is_found $got)
         grep -qx 'board-journal 2 little' "$work/found" || wrong="$wrong; its journal is $(head -n 1 "$work/found")"
     else
-        wrong=$(is_none 836 "at most 50 events, 2 preemptions, 0 ticks and 0 raises" $got)
+        wrong=$(is_none 836 "at most 50 events, 2 preemptions, 0 ticks and 0 raises" $got 371)
     fi
     verdict "explore: $source, little-endian" "$wrong"
 done

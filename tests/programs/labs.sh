@@ -314,7 +314,7 @@ looked "the beginning" 4 1 << 'END'
 with the letters ckxf and room for 1 it should write these, and writes 'ccffffffffffffffffffffffffffffffffffffff'
     trace --summary: refused: psnd_dtq(1, 0x0000006b) = E_TMOUT at event 12, at send+0xc (80000014), and 2 times after it
     trace --summary: refused: prcv_dtq(1) = E_TMOUT at event 33, at consumer+0x8 (80000030), and 142 times after it
-a schedule of lab.s fails: fails after 7 events and the fair end: the console isn't the wanted text
+a schedule of lab.s fails: fails after 7 events: the console is "", not "ckxf"
     event 0  processor 2 goes on at consumer
 END
 solved 4
