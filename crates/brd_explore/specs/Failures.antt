@@ -107,8 +107,8 @@ is_at_rest b = b.kernel.off || (nobody_goes b && not (some_are_due b))
 unfoldable pub is_end : BoardState → Bounds → Bool
 is_end b left = b.kernel.off || (left.owed == 0 && is_at_rest b)
 
--- It is cut short where it has come to no end, and no event is left, or nobody goes, and no tick is left for a wait that
--- would end by one.
+-- It is cut short where it has come to no end, and no event is left, or nobody goes, and no tick is left for a wait
+-- that would end by one.
 unfoldable pub is_cut : BoardState → Bounds → Bool
 is_cut b left = not (is_end b left) && (left.events == 0 || (left.ticks == 0 && nobody_goes b && some_are_due b))
 

@@ -1,5 +1,6 @@
 -- Agents that lag: one board is another one on which some agents have yet to do instructions that nobody else can see.
-use Rattle.std.specs.Prelude.{◌≡◌, ℕ, zero, suc, ◌==◌, Bool, true, false, if◌then◌else◌, List, [], ◌∷◌, Option, None, Some, IfSome}
+use Rattle.std.specs.Prelude.{◌≡◌, ℕ, zero, suc, ◌==◌, Bool, true, false, if◌then◌else◌, List, [], ◌∷◌, Option, None}
+use Rattle.std.specs.Prelude.{Some, IfSome}
 use Rattle.brd_link.specs.LinkSet.{is_linked, is_same_block}
 use Rattle.brd_kernel.specs.Kernel.{deliverable}
 use Rattle.brd_board.specs.declared.event.Event.{Event}

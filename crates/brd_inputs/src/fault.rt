@@ -191,8 +191,8 @@ impl CommandFault {
     }
 
     /// The status that the program ends with: 1 for a fault of the input or of a race, and for a journal after which
-    /// nothing fails; 2 for a fault of the command line, 3 for want of memory, 4 where reading or writing failed; 5 for a
-    /// search that finds what fails.
+    /// nothing fails; 2 for a fault of the command line, 3 for want of memory, 4 where reading or writing failed; 5 for
+    /// a search that finds what fails.
     pub fn status(&self) -> u8
         ensures { result ≡ status_of self.now }
     {

@@ -1,4 +1,5 @@
-//! The shape of an instruction: what it reads and writes of the registers, what it accesses of memory, and where it leads.
+//! The shape of an instruction: what it reads and writes of the registers, what it accesses of memory, and where it
+//! leads.
 
 ghost use Rattle.std.specs.Prelude.{◌≡◌};
 ghost use Rattle.brd_isa.specs.declared.shape.Transfer.TheVariants.{Load, Store};

@@ -1,6 +1,7 @@
 -- A journal that a search has found, and the file that gets it. `created` and `closed` say what calls on files did,
 -- `contents` what a file holds that is written.
-use Rattle.std.specs.Prelude.{◌≡◌, ◌⊎◌, ℕ, ◌<◌, Bool, false, ◌||◌, List, length, bytes_eq, Option, None, Some, Result, Ok, Err, IsErrAnd}
+use Rattle.std.specs.Prelude.{◌≡◌, ◌⊎◌, ℕ, ◌<◌, Bool, false, ◌||◌, List, length, bytes_eq, Option, None, Some, Result}
+use Rattle.std.specs.Prelude.{Ok, Err, IsErrAnd}
 use Rattle.std.specs.Io.KnownBytes.{Appends}
 use Rattle.std.specs.declared.io.Error.{Error}
 use Rattle.brd_board.specs.declared.event.Event.{Event}

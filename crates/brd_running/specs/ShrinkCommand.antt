@@ -104,9 +104,8 @@ RefusesShrinking options image config events old new fault =
     × Keeps old new)
     ⊎ IsUnwritten options image config events old new fault
 
--- A journal that would be written over the object file or the configuration is refused. Else IMAGE is opened first, then
--- CONFIG, then JOURNAL; where all were, they are read. A file for what is left is created
--- only after that is told.
+-- A journal that would be written over the object file or the configuration is refused. Else IMAGE is opened first,
+-- then CONFIG, then JOURNAL; where all were, they are read. A file for what is left is created only after that is told.
 pub data ShrinkFilesEnd {F R W : Type 0}
     (opened : F → List ℕ → Result R Error → F → Type 0) (created : F → List ℕ → Result W Error → F → Type 0)
     (closed : F → W → F → Type 0) (remaining : R → Option (List ℕ)) (contents : W → Option (List ℕ))

@@ -2,9 +2,9 @@
 //! `debug`, `explore` and `shrink`.
 //!
 //! `specs/WordsCommand.antt`, `specs/AsmCommand.antt`, `specs/RunCommand.antt`, `specs/RaceCommand.antt`,
-//! `specs/Debugging.antt`, `specs/ExploreCommand.antt` and `specs/ShrinkCommand.antt` say what a command writes for what
-//! it reads, and which faults keep it from that; `specs/Files.antt` (the last two themselves) which files are opened,
-//! and in which order.
+//! `specs/Debugging.antt`, `specs/ExploreCommand.antt` and `specs/ShrinkCommand.antt` say what a command writes for
+//! what it reads, and which faults keep it from that; `specs/Files.antt` (the last two themselves) which files are
+//! opened, and in which order.
 #![tactic(auto)]
 
 mod asm_command;

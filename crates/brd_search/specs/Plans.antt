@@ -21,7 +21,8 @@ use Rattle.brd_explore.specs.declared.wanted.Failure.TheVariants as failure
 use Rattle.brd_explore.specs.declared.wanted.Wanted.{Wanted}
 use Rattle.brd_search.specs.Escapes.{bytes_of}
 use Rattle.brd_search.specs.declared.fault.SearchFault.{SearchFault}
-use Rattle.brd_search.specs.declared.fault.SearchFault.TheVariants.{NoMemory, Events, Fair, Remember, Lines, NoLines, Twice, NoHandler}
+use Rattle.brd_search.specs.declared.fault.SearchFault.TheVariants.{NoMemory, Events, Fair, Remember, Lines, NoLines}
+use Rattle.brd_search.specs.declared.fault.SearchFault.TheVariants.{Twice, NoHandler}
 use Rattle.brd_search.specs.declared.fault.SearchFault.TheVariants.{Word, NoSymbol, Console, Shard, Raises as BadRaises}
 use Rattle.brd_search.specs.declared.raises.Raises.{Raises}
 use Rattle.brd_search.specs.declared.options.Looks.{Looks}

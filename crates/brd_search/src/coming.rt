@@ -2,7 +2,8 @@
 
 ghost use Rattle.std.specs.Prelude.{◌≡◌, ◌++◌, Some, IfErr, IfOk, MatchResult, OnOk};
 ghost use Rattle.brd_search.specs.Plans.{Adds, IsOfRaises, MayCome, raise_of, raises_in, raises_of, round_of, steps_of};
-ghost use Rattle.brd_search.specs.Plans.{AreFit, AreUnfit, IsOfLine, is_again, is_idle, is_twice, raises_line, text_of, ticks_of};
+ghost use Rattle.brd_search.specs.Plans.{AreFit, AreUnfit, IsOfLine, is_again, is_idle, is_twice, raises_line};
+ghost use Rattle.brd_search.specs.Plans.{text_of, ticks_of};
 ghost use Rattle.std.specs.List.{list_any};
 ghost use Rattle.brd_search.specs.declared.fault.SearchFault.TheVariants.{Lines as no_line};
 

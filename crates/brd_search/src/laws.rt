@@ -12,7 +12,8 @@ ghost use Rattle.brd_search.specs.declared.plan.Plan.{Plan as PlanOf};
 
 use brd_explore::laws::shards_are_the_whole;
 
-/// Without `--shard` the whole is searched: if no schedule of the plan's shard within bounds fails, none within them does.
+/// Without `--shard` the whole is searched: if no schedule of the plan's shard within bounds fails, none within them
+/// does.
 pub fn one_shard_is_the_whole()
     ensures { (plan : PlanOf) (b : BoardState) (bounds : BoundsOf) → shard_of None ≡ Some plan.shard →
         NoneWithin plan b bounds → NoneFails plan.wanted plan.among (start b bounds) }

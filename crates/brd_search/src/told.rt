@@ -52,8 +52,8 @@ fn put_bounds(alloc: Global, out: &mut Vec<u8>, bounds: Bounds) -> Result<(), No
     put_count(alloc, out, u64::from(bounds.owed), "raise")
 }
 
-/// Puts at the end of how many schedules none fails, and within which bounds, as what follows "none of "; and below that
-/// what was looked for, and how many of the schedules came to an end.
+/// Puts at the end of how many schedules none fails, and within which bounds, as what follows "none of "; and below
+/// that what was looked for, and how many of the schedules came to an end.
 pub fn put_none(
     alloc: Global,
     symbols: &[Symbol],
@@ -127,8 +127,8 @@ fn put_kind(
     }
 }
 
-/// Puts at the end a line of how many schedules came to an end, and how many were cut short by what; and if none came to
-/// an end, and none went on to a fair end, a line that says so.
+/// Puts at the end a line of how many schedules came to an end, and how many were cut short by what; and if none came
+/// to an end, and none went on to a fair end, a line that says so.
 fn put_ends(alloc: Global, plan: &Plan, counts: Counts, out: &mut Vec<u8>) -> Result<(), NoMemory> {
     put_number(alloc, out, counts.ended)?;
     put(out, " came to an end")?;
