@@ -1,8 +1,9 @@
 //! The board.
 
-ghost use Rattle.std.specs.Prelude.{◌≡◌, Decides, ◌≤◌, All, IfOk, replicate, None};
+ghost use Rattle.std.specs.Prelude.{◌≡◌, Decides, ◌≤◌, All, IfOk, IfSome, replicate, None};
 ghost use Rattle.brd_config.specs.View.{view};
-ghost use Rattle.brd_kernel.specs.Kernel.{line_at};
+ghost use Rattle.brd_kernel.specs.Kernel.{executor_on, line_at};
+ghost use Rattle.brd_kernel.specs.Always.{HasContext, HasPlace};
 ghost use Rattle.brd_tasks.specs.Ready.{IsProcessor, IsSetup};
 ghost use Rattle.brd_board.specs.Board.{
   happens,
@@ -44,7 +45,7 @@ use crate::view::Fault;
 use brd_base::{BASE, List, NoMemory, copy_with_room, same_slices};
 use brd_config::{Config, Operand, Stack, TaskAttributes, TaskConfig};
 use brd_exec::{Context, Outcome};
-use brd_kernel::{Kernel, LineSetup, Spin, Standing, TaskId, TaskSetup, TaskView};
+use brd_kernel::{Executor, Kernel, LineSetup, Spin, Standing, TaskId, TaskSetup, TaskView};
 use brd_link::Links;
 use brd_mem::{Image, Ram};
 use brd_sysgate::call;
@@ -356,6 +357,15 @@ impl Board {
         ensures { result ≡ registers_of self.now cpu }
     {
         self.kernel.context(cpu).copied()
+    }
+
+    /// Who executes on a processor, if somebody does: also of a board that is off. Its context lies in the kernel.
+    pub fn executor(&self, cpu: u8) -> Option<Executor>
+        ensures is { result ≡ executor_on self.now.kernel cpu }
+        ensures there { IfSome result (HasContext self.now.kernel cpu) }
+        ensures place { IfSome result (HasPlace self.now.kernel cpu) }
+    {
+        self.kernel.executor(cpu)
     }
 
     /// The byte at an address, where RAM has one.

@@ -18,7 +18,7 @@ mod view;
 
 pub use board::Board;
 pub use boot::BootFault;
-pub use brd_kernel::{Spin, Standing, TaskId, TaskState, TaskView, WaitKind, WaitReason};
+pub use brd_kernel::{Executor, Spin, Standing, TaskId, TaskState, TaskView, WaitKind, WaitReason};
 pub use brd_lent::Decoded;
 pub use event::{Event, Report};
 pub use lease::{Lease, MOST_LENT, Stale};
