@@ -3,7 +3,11 @@ use Rattle.std.proofs.Common.{◌≡◌, inl, inr, ℕ, zero, suc, ◌+◌, ◌<
 use Rattle.std.specs.Prelude.{Bool, true, false, not, nat_lt, if◌then◌else◌, slice_index_or, slice_set, Option, None, Some}
 use Rattle.std.specs.List.{position, position_or_len}
 use Rattle.std.proofs.lemmas.Bool.{cases_lt, le-ltb, lt-ltb}
-use Rattle.brd_verdicts.specs.Changed.{changed, changed_at}
+use Rattle.brd_verdicts.specs.Changed.{changed, old_at, put_at}
+
+-- the list with the element at a place changed
+abbrev changed_at : {X : Type 0} → (X → X) → X → Option ℕ → List X → List X
+changed_at change new at xs = put_at at new (change (old_at at new xs)) xs
 
 -- the place, where it is one of the list
 abbrev place : ℕ → ℕ → Option ℕ
@@ -40,8 +44,10 @@ changed-place test change new (x ∷ xs) =
     by-test change new x xs (changed test change new xs) (position_or_len test xs) (length xs) (test x)
     (changed-place test change new xs)
 
--- what was found, and what was made by the place
-pub changed-by : {X : Type 0} (test : X → Bool) (change : X → X) (new : X) (xs ys : List X) (at : Option ℕ) →
-    at ≡ position test xs → ys ≡ changed_at change new at xs → ys ≡ changed test change new xs
-changed-by test change new xs ys at found is =
-    is ∙ ap (λ p. changed_at change new p xs) found ∙ sym (changed-place test change new xs)
+-- what was found, what was there, what it becomes, and the list with that
+pub changed-by : {X : Type 0} (test : X → Bool) (change : X → X) (new : X) (xs ys : List X) (at : Option ℕ)
+    (old other : X) → at ≡ position test xs → old ≡ old_at at new xs → other ≡ change old →
+    ys ≡ put_at at new other xs → ys ≡ changed test change new xs
+changed-by test change new xs ys at old other found was becomes is =
+    is ∙ ap (λ x. put_at at new x xs) (becomes ∙ ap change was)
+    ∙ ap (λ p. changed_at change new p xs) found ∙ sym (changed-place test change new xs)

@@ -7,7 +7,12 @@ abbrev pub changed : {X : Type 0} → (X → Bool) → (X → X) → X → List 
 changed test change new [] = new ∷ []
 changed test change new (x ∷ xs) = if test x then change x ∷ xs else x ∷ changed test change new xs
 
--- the same, by the place of that element
-abbrev pub changed_at : {X : Type 0} → (X → X) → X → Option ℕ → List X → List X
-changed_at change new None xs = xs ++ new ∷ []
-changed_at change new (Some at) xs = slice_set xs at (change (slice_index_or xs at new))
+-- by its place: the element there, or the new one
+abbrev pub old_at : {X : Type 0} → Option ℕ → X → List X → X
+old_at None new xs = new
+old_at (Some at) new xs = slice_index_or xs at new
+
+-- and the list with another there, or with the new one
+abbrev pub put_at : {X : Type 0} → Option ℕ → X → X → List X → List X
+put_at None new other xs = xs ++ new ∷ []
+put_at (Some at) new other xs = slice_set xs at other

@@ -7,6 +7,7 @@
 
 mod accounts;
 mod answers;
+mod changed;
 mod circle;
 mod deadlock;
 mod did_nothing;

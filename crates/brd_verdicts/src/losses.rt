@@ -1,11 +1,11 @@
 //! Raises of interrupt lines that had no effect, counted by line.
 
-ghost use Rattle.std.specs.Prelude.{◌≡◌, ◌==◌, [], slice_index_or, slice_set, OnOk};
+ghost use Rattle.std.specs.Prelude.{◌≡◌, ◌==◌, [], OnOk};
 ghost use Rattle.std.specs.List.{position};
 ghost use Rattle.brd_verdicts.specs.Losses.{lost_if, lost_in, lost_with, more_lost};
-ghost use Rattle.brd_verdicts.specs.Changed.{changed_at};
 ghost use Rattle.brd_verdicts.specs.Again.{lost_again};
 
+use crate::changed::{old_at, put_at};
 use brd_base::NoMemory;
 use brd_happening::{What, Why};
 use std::alloc::Global;
@@ -70,41 +70,10 @@ impl Losses {
     fn count_some(&mut self, new: LostRaises) -> Result<(), NoMemory>
         ensures { OnOk result (self.new ≡ lost_with new self.old) }
     {
-        let at = place_of(self.lines.as_slice(), new);
-        count_at(&mut self.lines, new, at)
-    }
-}
-
-/// Counts raises whose line is at a place.
-fn count_at(lines: &mut Vec<LostRaises>, new: LostRaises, at: Option<usize>) -> Result<(), NoMemory>
-    ensures { OnOk result (lines.new.items ≡ changed_at (more_lost new.count) new at lines.old.items) }
-{
-    match at {
-        None => {
-            lines.push(new)?;
-            Ok(())
-        }
-        Some(at) => {
-            let old = line_at(lines.as_slice(), at, new);
-            put_at(lines, at, more_lost(new.count, old));
-            Ok(())
-        }
-    }
-}
-
-/// What is at a place, or something else where there is nothing.
-fn line_at(lines: &[LostRaises], at: usize, or: LostRaises) -> LostRaises
-    ensures { result ≡ slice_index_or lines.now at or }
-{
-    lines.get(at).copied().unwrap_or(or)
-}
-
-/// Puts something at a place, where there is that.
-fn put_at(lines: &mut Vec<LostRaises>, at: usize, line: LostRaises)
-    ensures { lines.new.items ≡ slice_set lines.old.items at line }
-{
-    if at < lines.len() {
-        lines[at] = line;
+        let lines = self.lines.as_slice();
+        let at = place_of(lines, new);
+        let old = old_at(lines, at, new);
+        put_at(&mut self.lines, at, new, more_lost(new.count, old))
     }
 }
 

@@ -1,11 +1,11 @@
 //! Service calls that were answered with an error, counted by kind.
 
-ghost use Rattle.std.specs.Prelude.{◌≡◌, [], slice_index_or, slice_set, OnOk};
+ghost use Rattle.std.specs.Prelude.{◌≡◌, [], OnOk};
 ghost use Rattle.std.specs.List.{position};
-ghost use Rattle.brd_verdicts.specs.Changed.{changed_at};
 ghost use Rattle.brd_verdicts.specs.Refusals.{counted, one_more, refused_by, same_call, same_kind};
 
 use crate::answers::{Answered, call_in};
+use crate::changed::{old_at, put_at};
 use brd_base::NoMemory;
 use brd_happening::AskedCall;
 use std::alloc::Global;
@@ -62,41 +62,10 @@ impl Refusals {
     pub(crate) fn count(&mut self, new: Refused) -> Result<(), NoMemory>
         ensures { OnOk result (self.new ≡ counted new self.old) }
     {
-        let at = kind_of(self.kinds.as_slice(), new);
-        count_at(&mut self.kinds, new, at)
-    }
-}
-
-/// Counts one more, whose kind is at a place.
-fn count_at(kinds: &mut Vec<Refused>, new: Refused, at: Option<usize>) -> Result<(), NoMemory>
-    ensures { OnOk result (kinds.new.items ≡ changed_at one_more new at kinds.old.items) }
-{
-    match at {
-        None => {
-            kinds.push(new)?;
-            Ok(())
-        }
-        Some(at) => {
-            let old = kind_at(kinds.as_slice(), at, new);
-            put_at(kinds, at, one_more(old));
-            Ok(())
-        }
-    }
-}
-
-/// The kind at a place, or another one where there is none.
-fn kind_at(kinds: &[Refused], at: usize, or: Refused) -> Refused
-    ensures { result ≡ slice_index_or kinds.now at or }
-{
-    kinds.get(at).copied().unwrap_or(or)
-}
-
-/// Puts a kind at a place, where there is that.
-fn put_at(kinds: &mut Vec<Refused>, at: usize, kind: Refused)
-    ensures { kinds.new.items ≡ slice_set kinds.old.items at kind }
-{
-    if at < kinds.len() {
-        kinds[at] = kind;
+        let kinds = self.kinds.as_slice();
+        let at = kind_of(kinds, new);
+        let old = old_at(kinds, at, new);
+        put_at(&mut self.kinds, at, new, one_more(old))
     }
 }
 
