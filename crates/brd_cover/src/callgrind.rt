@@ -6,9 +6,10 @@ ghost use Rattle.brd_timeline.specs.Ends.{EndsWith};
 use crate::calls::Call;
 use crate::counting::Counting;
 use crate::edges::parts_of;
-use crate::text::{put, put_decimal, put_line, put_name, put_path};
+use crate::text::{put, put_line, put_name, put_path};
 use crate::whole::{NONE, Sources};
 use brd_base::{BASE, NoMemory};
+use brd_text::put_decimal;
 use std::alloc::Global;
 
 /// Steps of a line of a function, or calls that stand in it.

@@ -3,7 +3,7 @@
 use crate::stacks::Lead;
 use brd_board::Standing;
 use brd_happening::{Answer, Happening, Instruction, What};
-use brd_isa::{BranchOp, BranchRegimmOp, Insn, JumpOp};
+use brd_isa::{BranchOp, Flow, Insn, shape_of};
 
 /// How many numbers a processor's owners take.
 const OWNERS: u32 = 512;
@@ -31,10 +31,9 @@ pub(crate) fn lead_of(done: &Instruction, from: u32) -> Option<Lead> {
     if !jump.taken {
         return None;
     }
-    let calls = match done.insn {
-        Insn::Jump(JumpOp::Jal, _) | Insn::JumpLinkRegister(_, _) => true,
-        Insn::BranchRegimm(op, _, _) if links(op) => true,
-        Insn::JumpRegister(register) if register.number() == 31 => false,
+    let calls = match shape_of(&done.insn).flow {
+        Flow::JumpAndLink | Flow::BranchAndLink => true,
+        Flow::Return => false,
         _ => return None,
     };
     Some(Lead {
@@ -44,26 +43,18 @@ pub(crate) fn lead_of(done: &Instruction, from: u32) -> Option<Lead> {
     })
 }
 
-/// Whether a branch links.
-fn links(op: BranchRegimmOp) -> bool {
-    matches!(
-        op,
-        BranchRegimmOp::Bltzal
-            | BranchRegimmOp::Bgezal
-            | BranchRegimmOp::Bltzall
-            | BranchRegimmOp::Bgezall
-    )
-}
-
 /// Whether an instruction is a branch that may be taken or not.
 pub(crate) fn may_branch(insn: &Insn) -> bool {
+    let flow = shape_of(insn).flow;
+    matches!(flow, Flow::Branch | Flow::BranchAndLink) && !is_settled(insn)
+}
+
+/// Whether a branch does the same whatever the registers hold: `b` is a BEQ of a register and itself, `bal` a BGEZAL of
+/// register 0.
+fn is_settled(insn: &Insn) -> bool {
     match *insn {
-        Insn::Branch(op, rs, rt, _) => {
-            let same = rs.number() == rt.number();
-            !(same && matches!(op, BranchOp::Beq | BranchOp::Beql))
-        }
-        Insn::BranchZero(_, _, _) => true,
-        Insn::BranchRegimm(_, rs, _) => rs.number() != 0,
+        Insn::Branch(BranchOp::Beq | BranchOp::Beql, rs, rt, _) => rs.number() == rt.number(),
+        Insn::BranchRegimm(_, rs, _) => rs.number() == 0,
         _ => false,
     }
 }

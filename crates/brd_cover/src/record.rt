@@ -4,8 +4,9 @@ ghost use Rattle.std.specs.Prelude.{IfOk, codes};
 ghost use Rattle.brd_timeline.specs.Ends.{EndsWith};
 
 use crate::counts::Count;
-use crate::text::{put, put_decimal, put_line, put_name, put_path};
+use crate::text::{put, put_line, put_name, put_path};
 use brd_base::NoMemory;
+use brd_text::put_decimal;
 use std::alloc::Global;
 
 /// How many of something there are, and how many of them were executed.

@@ -7,20 +7,13 @@ ghost use Rattle.brd_timeline.specs.Ends.{EndsWith};
 
 use brd_base::NoMemory;
 use brd_listing::write_name;
-use itoa::Buffer;
+use brd_text::put_decimal;
 
 /// Puts a text at the end.
 pub(crate) fn put(to: &mut Vec<u8>, text: &str) -> Result<(), NoMemory>
     ensures { IfOk result (λ _. EndsWith text.now to.new.items) }
 {
     to.extend_from_slice(text.as_bytes())?;
-    Ok(())
-}
-
-/// Puts a decimal number at the end.
-pub(crate) fn put_decimal(to: &mut Vec<u8>, number: u64) -> Result<(), NoMemory> {
-    let mut buffer = Buffer::new();
-    to.extend_from_slice(buffer.format(number).as_bytes())?;
     Ok(())
 }
 
