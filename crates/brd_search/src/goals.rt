@@ -1,14 +1,13 @@
 //! What words should be, as an option says it.
 
 ghost use Rattle.std.specs.Prelude.{◌≡◌, IfErr, OnOk};
-ghost use Rattle.brd_mem.specs.Image.{symbol_value};
 ghost use Rattle.brd_search.specs.Plans as plans;
 ghost use Rattle.brd_search.specs.Plans.{Adds, IsOfGoal, IsOfGoals, goals_of, parts_of, text_of};
 
 use crate::fault::SearchFault;
 use brd_base::List;
 use brd_explore::Failure;
-use brd_mem::Symbol;
+use brd_mem::{Symbol, symbol_value};
 use brd_text::{is_digit, number, parted, piece};
 
 /// Adds the failures that the words of an option look for.
@@ -137,16 +136,4 @@ fn begins_with_digit(text: &[u8]) -> bool
         Some(first) => is_digit(*first),
         None => false,
     }
-}
-
-/// The value of the symbol of that name.
-fn symbol_value(symbols: &[Symbol], name: &[u8]) -> Option<u32>
-    ensures { result ≡ symbol_value symbols.now name.now }
-{
-    for symbol in symbols {
-        if name == symbol.name.as_slice() {
-            return Some(symbol.value);
-        }
-    }
-    None
 }
