@@ -27,7 +27,8 @@ pub enum SearchFault {
     #[error("--raises says how often lines may be raised, and --lines which")]
     NoLines,
     /// Raises aren't told as they should be.
-    #[error("--raises is R or F..R: lines are raised R times at most, and F times before rest is an end, R times if left out")]
+    #[error("--raises is R or F..R: lines are raised R times at most, and F times before rest is an end, R times if left \
+         out")]
     Raises,
     /// A line is named twice.
     #[error("--lines names a line twice")]
@@ -36,8 +37,8 @@ pub enum SearchFault {
     #[error("--lines names a line without a handler")]
     NoHandler,
     /// A word isn't as it should be.
-    #[error("--word has what words should be, as count=2 (at the end) or inside=0..1 (always), with commas between them; a \
-         place is a symbol, or 0x and a hexadecimal address")]
+    #[error("--word has what words should be, as count=2 (at the end) or inside=0..1 (always), with commas between \
+         them; a place is a symbol, or 0x and a hexadecimal address")]
     Word,
     /// A place of a word is no symbol of the image.
     #[error("--word names a symbol that the object file doesn't have")]
