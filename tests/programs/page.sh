@@ -31,6 +31,8 @@ for journal in examples/*/*.journal; do
     "$board" asm "$files.s" "$work/$name.elf" 2> "$work/err" || { fail "page: $name" "$(cat "$work/err")"; continue; }
     shown "$name" "$work/$name.elf" "$files.cfg" "$journal"
 done
+"$board" asm tests/data/page/functions.s "$work/functions.elf"
+shown functions "$work/functions.elf" tests/data/page/functions.cfg tests/data/page/functions.journal
 scenes=$(cd tests/scenes && printf '%s\n' */lines)
 # shellcheck disable=SC2086
 lay ${scenes//\/lines/}
@@ -88,5 +90,7 @@ else
         if [ "$word" = passed ]; then pass "page: $name in a browser"; else fail "page: $name in a browser" "$wrong"; fi
     done < <(tests/programs/pages/compare "$chromium" "$board" < "$work/pages" 2>&1)
     check_script "page: moves in a browser" tests/programs/pages/moves "$chromium" "$work"
+    check_script "page: everybody can use it" tests/programs/pages/access "$chromium" "$work/functions.html" \
+        "$work/lost_update-racy.html" "$work/deadlock.html"
 fi
 summary

@@ -6,7 +6,7 @@ pub(crate) const FRONT: &str = r##"<!DOCTYPE html>
 <head>
 <meta charset="utf-8">
 <meta name="viewport" content="width=device-width, initial-scale=1">
-<meta http-equiv="Content-Security-Policy" content="default-src 'none'; style-src 'sha256-Uv5zYj1C0cMijb5RcYPGALRSnOgA47evaF9oGybdbJg='; script-src 'sha256-g+8Xf8Y7w3v3Q4R4EFymtcslJFhtTY1y/CUWYQMgUXM='; base-uri 'none'; form-action 'none'">
+<meta http-equiv="Content-Security-Policy" content="default-src 'none'; style-src 'sha256-5Di/5/D96QCi2moJ+904iFgGkCgpc9VEJs5OyaQNNR8='; script-src 'sha256-EzuNHNIMHDNQDl6D7AelPTxUFgT9rTVy9Bl1H13cN/o='; base-uri 'none'; form-action 'none'">
 <title>A run of the board</title>
 <style>/* The look of a page of `board trace --format html`: light or dark as the reader's system is, and for paper. */
 :root {
@@ -21,6 +21,7 @@ pub(crate) const FRONT: &str = r##"<!DOCTYPE html>
   }
 }
 * { box-sizing: border-box; }
+html { scroll-padding: 7rem 0 1rem; }
 [hidden] { display: none !important; }
 body { margin: 0 auto; padding: 0.8rem 1rem 2rem; max-width: 100rem; background: var(--ground); color: var(--ink);
   font: 15px/1.4 system-ui, sans-serif; }
@@ -28,55 +29,83 @@ h1 { font-size: 1.25rem; margin: 0 0 0.5rem; }
 h2 { font-size: 1rem; margin: 0 0 0.4rem; }
 h3 { font-size: 0.9rem; margin: 0.6rem 0 0.1rem; }
 #processors p { margin: 0 0 0.2rem; font-size: 0.87em; }
-#time { margin: 0.3rem 0 0; }
+#time, #order { margin: 0.3rem 0 0; }
+#order { color: var(--soft); font-size: 0.87em; }
 code, pre, td, .mono { font-family: ui-monospace, "DejaVu Sans Mono", Menlo, Consolas, monospace; }
-#picture { background: #ffffff; border: 1px solid var(--line); border-radius: 4px; overflow: auto; max-height: 45vh; }
+summary { cursor: pointer; padding: 0.15rem 0; }
+#picture .scrolls { background: #ffffff; border: 1px solid var(--line); border-radius: 4px; max-height: 45vh; }
 #picture svg { display: block; width: 100%; height: auto; min-width: 46rem; }
 #picture p { color: #1b1b1b; padding: 0 1rem; }
-#controls { position: sticky; top: 0; z-index: 1; display: flex; flex-wrap: wrap; gap: 0.4rem; align-items: center;
-  background: var(--ground); padding: 0.6rem 0 0.4rem; }
-.group { display: inline-flex; gap: 0.3rem; align-items: center; border-left: 1px solid var(--line);
+#ends { margin: 0.3rem 0; }
+#ends ul { margin: 0 0 0.4rem; padding-left: 1.4rem; }
+#ends li { overflow-wrap: anywhere; }
+#controls, #asks { display: flex; flex-wrap: wrap; gap: 0.4rem; align-items: center; }
+#controls { position: sticky; top: 0; z-index: 1; background: var(--ground); padding: 0.6rem 0 0.4rem; }
+#slider { flex: 1 1 12rem; min-width: 0; padding: 0; accent-color: var(--chosen); }
+.group { display: inline-flex; flex-wrap: wrap; gap: 0.3rem; align-items: center; border-left: 1px solid var(--line);
   padding-left: 0.5rem; }
 button, input, select { font: inherit; color: inherit; background: var(--card); border: 1px solid var(--line);
   border-radius: 4px; padding: 0.2rem 0.5rem; }
 button { cursor: pointer; }
 button:hover { border-color: var(--chosen); }
 :focus-visible { outline: 3px solid var(--chosen); outline-offset: 1px; }
-#said { min-height: 4.3em; margin: 0.2rem 0 0.8rem; padding: 0.5rem 0.7rem; background: var(--card);
+#said { min-height: 4.3em; margin: 0.4rem 0 0.8rem; padding: 0.5rem 0.7rem; background: var(--card);
   border-left: 4px solid var(--chosen); border-radius: 4px; overflow-wrap: anywhere; white-space: pre-line; }
 #range { color: var(--soft); }
 #views { display: grid; gap: 1rem; align-items: start; grid-template-columns: minmax(0, 1fr); }
-@media (min-width: 70rem) {
-  #views { grid-template-columns: minmax(0, 5fr) minmax(0, 5fr) minmax(0, 5fr); grid-auto-flow: dense; }
-  #listing { grid-column: 1; grid-row: 1 / span 5; }
-  #processors { grid-column: 2; grid-row: 1 / span 5; }
+.column { display: grid; gap: 1rem; align-items: start; grid-template-columns: minmax(0, 1fr); }
+@media (min-width: 700px) {
+  #views { grid-template-columns: minmax(0, 1fr) minmax(0, 1fr); grid-template-rows: auto 1fr; }
+  .column:first-child { grid-row: 1 / span 2; }
 }
+@media (min-width: 1120px) {
+  #views { grid-template-columns: repeat(3, minmax(0, 1fr)); grid-template-rows: auto; }
+  #views.has-source { grid-template-columns: minmax(0, 8fr) minmax(0, 5fr) minmax(0, 5fr); }
+  .column:first-child { grid-row: 1; }
+}
+@media (max-width: 699px) {
+  body { padding: 0.6rem 0.6rem 2rem; }
+  .group { border-left: 0; padding-left: 0; }
+  #listing .scrolls { max-height: 45vh; }
+}
+@media (max-height: 500px) { #controls { position: static; } }
 section { background: var(--card); border: 1px solid var(--line); border-radius: 4px; padding: 0.6rem 0.7rem;
   min-width: 0; }
 table { border-collapse: collapse; width: 100%; }
 th { text-align: left; font-weight: 600; color: var(--soft); font-size: 0.85em; }
-td, th { padding: 0.05rem 0.4rem 0.05rem 0; vertical-align: top; }
+td, th { padding: 0.05rem 0.4rem 0.05rem 0; vertical-align: baseline; }
 td { font-size: 0.87em; white-space: nowrap; }
-#memory td:first-child, #tasks td:last-child { white-space: normal; overflow-wrap: anywhere; }
-#tasks { overflow-x: auto; }
-.scrolls { overflow: auto; max-height: 36rem; }
+#tasks td:last-child { white-space: normal; min-width: 8rem; }
+#memory td:nth-child(5) { white-space: pre; }
+#stack td:last-child { white-space: normal; min-width: 6rem; }
+#path { margin: 0 0 0.3rem; font-size: 0.87em; overflow-wrap: anywhere; }
+.scrolls { overflow: auto; min-height: 24px; max-height: 36rem; }
 #memory .scrolls { max-height: 20rem; }
+#give { margin: 0 0 0.4rem; font-size: 0.87em; color: var(--soft); }
+#give input { max-width: 100%; min-height: 24px; border: 0; padding: 0; background: none; }
 #listing tr.label td { padding-top: 0.5rem; }
 #listing tr.here td { background: var(--here); }
-#listing tr.gap td { color: var(--soft); }
+#listing tr.gap td, #listing tr.unused td { color: var(--soft); }
 #listing td:nth-child(2) { color: var(--soft); }
+#listing .item { padding: 0 0.15rem; font-size: 1em; }
+td .item { white-space: nowrap; }
+#memory .item { white-space: normal; min-width: 5.5rem; }
+#listing .item:hover { border-color: var(--chosen); text-decoration: underline; }
 #listing td:nth-child(4), #listing td:nth-child(5) { white-space: pre; }
 #listing td:first-child { font-weight: 700; }
-#listing:not(.has-source) .source, #listing:not(.has-source) td:nth-child(5) { display: none; }
+#views:not(.has-source) .source { display: none; }
+/* (The source has the names, too.) */
+#views.has-source #listing tr > :nth-child(3) { display: none; }
+#views.has-source #listing td:nth-child(4) { max-width: 13rem; overflow: hidden; text-overflow: ellipsis; }
 .registers { display: grid; grid-template-columns: repeat(auto-fill, minmax(8rem, 1fr)); gap: 0 0.2rem; margin: 0;
   padding: 0; list-style: none; }
-.item { max-width: 100%; text-align: left; border: 1px solid transparent; background: none; padding: 0.02rem 0.25rem;
-  font: 0.87em/1.3 ui-monospace, "DejaVu Sans Mono", Menlo, Consolas, monospace; white-space: pre-wrap;
-  overflow-wrap: anywhere; }
+.item { max-width: 100%; min-height: 24px; text-align: left; border: 1px solid transparent; background: none;
+  padding: 0.02rem 0.25rem; font: 0.87em/1.3 ui-monospace, "DejaVu Sans Mono", Menlo, Consolas, monospace;
+  white-space: pre-wrap; overflow-wrap: anywhere; }
 .item.zero { color: var(--soft); }
 .item.changed, tr.changed td, tr.changed .item { background: var(--changed); font-weight: 700; }
 .item[aria-pressed="true"] { border-color: var(--chosen); outline: 1px solid var(--chosen); }
-#console pre { margin: 0; min-height: 1.4em; max-height: 16rem; overflow: auto; white-space: pre-wrap;
+#console pre { margin: 0; min-height: 24px; max-height: 16rem; overflow: auto; white-space: pre-wrap;
   overflow-wrap: anywhere; font-size: 0.87em; }
 #events ol { margin: 0; padding: 0; list-style: none; font-size: 0.87em; }
 #events li { overflow-wrap: anywhere; }
@@ -84,37 +113,67 @@ td { font-size: 0.87em; white-space: nowrap; }
 #events .later { color: var(--soft); }
 #keys { margin-top: 1rem; }
 #keys table { width: auto; }
-#keys td { font-family: inherit; }
+#keys td { font-family: inherit; white-space: normal; }
 #keys th { padding-right: 1rem; }
+a { color: var(--chosen); }
+#events a { font-family: ui-monospace, "DejaVu Sans Mono", Menlo, Consolas, monospace; }
+/* (The picture's colours are fixed: in the dark white becomes black, and each hue stays.) */
+@media screen and (prefers-color-scheme: dark) {
+  #picture .scrolls { background: #000000; }
+  #picture svg { filter: invert(1) hue-rotate(180deg); }
+  #picture p { color: var(--ink); }
+}
+/* (There the reader's colours replace these, so what they say is said by lines, too.) */
+@media (forced-colors: active) {
+  .item.changed, tr.changed td, tr.changed .item { text-decoration: underline; background: Mark; color: MarkText;
+    forced-color-adjust: none; }
+  #listing tr.here td, #listing tr.here .item, #events li[aria-current], #events li[aria-current] a {
+    background: Highlight; color: HighlightText; forced-color-adjust: none; }
+  #picture svg { forced-color-adjust: none; filter: none; background: #ffffff; }
+  .item[aria-pressed="true"] { outline: 2px solid Highlight; }
+}
 @media print {
-  :root { --ground: #ffffff; --ink: #000000; --soft: #444444; --line: #999999; --card: #ffffff; --here: #ffffff; }
-  body { max-width: none; padding: 0; }
-  #controls, #processors, #memory, #tasks, #console, #events, #keys { display: none; }
-  #picture { max-height: none; overflow: visible; border: 0; }
+  :root { --ground: #ffffff; --ink: #000000; --soft: #444444; --line: #999999; --card: #ffffff; --here: #ffffff;
+    --changed: #ffffff; --chosen: #000000; }
+  body { max-width: none; padding: 0; font-size: 10pt; }
+  .item { min-height: 0; }
+  #controls, #asks, #events, #keys, #give, summary { display: none; }
+  #ends summary { display: block; list-style: none; }
+  #picture .scrolls { border: 0; }
   #picture svg { min-width: 0; }
-  #views { display: block; }
-  section, #said { border: 0; padding: 0; background: none; }
-  .scrolls { max-height: none; overflow: visible; }
-  #listing tr { break-inside: avoid; }
+  #views, .column { display: block; }
+  section, #said { border: 0; padding: 0; background: none; margin: 0 0 0.6rem; }
+  .scrolls, #memory .scrolls, #console pre { max-height: none; overflow: visible; }
+  h2, h3 { break-after: avoid; }
+  tr, li { break-inside: avoid; }
 }
 </style>
 </head>
 <body>
+<header>
 <h1>A run of the board</h1>
 <noscript><p>The picture needs no script; all below it does.</p></noscript>
-<div id="picture">
+<details id="picture" open><summary>Picture</summary>
+<div class="scrolls" tabindex="0" role="group" aria-label="Picture">
 "##;
 
 /// What stands between the picture and the data.
 pub(crate) const MIDDLE: &str = r##"
-</div>
+</div></details>
+<details id="ends" hidden><summary id="end"></summary><ul></ul></details>
+</header>
 <main id="run" hidden>
-<div id="controls" role="group" aria-label="Moves" aria-controls="said">
+<div id="controls" role="group" aria-label="Moves">
 <button type="button" data-do="first" aria-keyshortcuts="Home" title="Home">First</button>
 <button type="button" data-do="back" aria-keyshortcuts="ArrowLeft" title="left arrow">&larr; Back</button>
-<button type="button" data-do="on" aria-keyshortcuts="ArrowRight" title="right arrow">On &rarr;</button>
+<button type="button" id="on" data-do="on" aria-keyshortcuts="ArrowRight" title="right arrow">On &rarr;</button>
 <button type="button" data-do="last" aria-keyshortcuts="End" title="End">Last</button>
-<span class="group"><label for="at">Position</label> <input id="at" type="text" inputmode="numeric" size="8" aria-describedby="range"> <span id="range"></span></span>
+<span class="group"><button type="button" id="play" data-do="play" aria-keyshortcuts="p" title="P">Play</button>
+<label for="speed">events a second</label> <select id="speed"><option>1</option><option selected>2</option><option>5</option><option>20</option><option>100</option><option>1000</option></select></span>
+<span class="group"><label for="at">Position</label> <input id="at" type="text" inputmode="numeric" size="6" aria-describedby="range"> <span id="range"></span></span>
+<input id="slider" type="range" step="1" aria-label="Position, as a slider">
+</div>
+<div id="asks" role="group" aria-label="Questions">
 <span class="group"><label for="cpu">Processor</label> <select id="cpu"></select>
 <button type="button" data-do="earlier-own" title="Shift+C">Its previous event</button>
 <button type="button" data-do="later-own" aria-keyshortcuts="c" title="C">Its next event</button></span>
@@ -125,22 +184,35 @@ pub(crate) const MIDDLE: &str = r##"
 </div>
 <p id="said" role="status" aria-live="polite" aria-atomic="true"></p>
 <div id="views">
+<div class="column">
 <section id="listing" aria-labelledby="listing-title"><h2 id="listing-title">Listing</h2>
-<div class="scrolls" tabindex="0" role="region" aria-labelledby="listing-title"><table><thead><tr><th scope="col">Here</th><th scope="col">Address</th><th scope="col">Name</th><th scope="col">Instruction</th><th scope="col" class="source">Source</th></tr></thead><tbody></tbody></table></div></section>
-<section id="processors" aria-labelledby="processors-title"><h2 id="processors-title">Registers</h2><div></div></section>
-<section id="memory" aria-labelledby="memory-title"><h2 id="memory-title">Memory</h2>
-<div class="scrolls"><table><thead><tr><th scope="col">Word</th><th scope="col">Address</th><th scope="col">Hexadecimal</th><th scope="col">Signed</th><th scope="col">Just now</th></tr></thead><tbody></tbody></table></div></section>
-<section id="tasks" aria-labelledby="tasks-title"><h2 id="tasks-title">Tasks</h2>
-<table><thead><tr><th scope="col">Task</th><th scope="col">State</th><th scope="col">Priority</th><th scope="col">Processor</th><th scope="col">Waits</th></tr></thead><tbody></tbody></table>
-<p id="time"></p></section>
-<section id="console" aria-labelledby="console-title"><h2 id="console-title">Console</h2><pre tabindex="0" role="region" aria-labelledby="console-title"></pre></section>
+<p id="give"><label for="source">Source, to be shown beside:</label> <input id="source" type="file"></p>
+<div class="scrolls" tabindex="0" role="group" aria-labelledby="listing-title"><table><thead><tr><th scope="col">Here</th><th scope="col">Address</th><th scope="col">Name</th><th scope="col">Instruction</th><th scope="col" class="source">Source</th></tr></thead><tbody></tbody></table></div></section>
 <section id="events" aria-labelledby="events-title"><h2 id="events-title">Events</h2><ol></ol></section>
+</div>
+<div class="column">
+<section id="processors" aria-labelledby="processors-title"><h2 id="processors-title">Registers</h2><div></div></section>
+<section id="stack" aria-labelledby="stack-title"><h2 id="stack-title">Stack</h2>
+<p id="path"></p>
+<div class="scrolls" tabindex="0" role="group" aria-labelledby="stack-title"><table><thead><tr><th scope="col">Place</th><th scope="col">Address</th><th scope="col">Hex</th><th scope="col">Stands for</th><th scope="col">Stored</th></tr></thead><tbody></tbody></table></div></section>
+</div>
+<div class="column">
+<section id="memory" aria-labelledby="memory-title"><h2 id="memory-title">Memory</h2>
+<div class="scrolls" tabindex="0" role="group" aria-labelledby="memory-title"><table><thead><tr><th scope="col">Word</th><th scope="col">Address</th><th scope="col">Hex</th><th scope="col">Signed</th><th scope="col">Text</th><th scope="col">Just now</th></tr></thead><tbody></tbody></table></div>
+<p id="order">Characters stand with the highest byte first: no load and no store of a byte here shows which one is the first in memory.</p></section>
+<section id="tasks" aria-labelledby="tasks-title"><h2 id="tasks-title">Tasks</h2>
+<div class="scrolls" tabindex="0" role="group" aria-labelledby="tasks-title"><table><thead><tr><th scope="col">Task</th><th scope="col">State</th><th scope="col">Priority</th><th scope="col">Processor</th><th scope="col">Waits</th></tr></thead><tbody></tbody></table></div>
+<p id="time"></p></section>
+<section id="console" aria-labelledby="console-title"><h2 id="console-title">Console</h2><pre tabindex="0" role="group" aria-labelledby="console-title"></pre></section>
+</div>
 </div>
 <details id="keys"><summary>Keys</summary>
 <table><tbody>
 <tr><th scope="row">right, left arrow</th><td>one step on, one step back</td></tr>
 <tr><th scope="row">Home, End</th><td>the first position, the last one</td></tr>
-<tr><th scope="row">G</th><td>to the field of the position; Enter goes there</td></tr>
+<tr><th scope="row">P</th><td>plays on, or stops</td></tr>
+<tr><th scope="row">G</th><td>to the field of the position; Enter goes there, Escape leaves it</td></tr>
+<tr><th scope="row">L</th><td>to the listing; up and down choose a line, Enter runs on to where it is executed next, Shift and a click back to where it was</td></tr>
 <tr><th scope="row">1 to 8</th><td>chooses a processor</td></tr>
 <tr><th scope="row">C, Shift+C</th><td>the next event of the chosen processor, its previous one</td></tr>
 <tr><th scope="row">H, Shift+H</th><td>the next happening (a call, an exception, an interrupt, a tick that releases a task), the previous one</td></tr>
@@ -148,7 +220,7 @@ pub(crate) const MIDDLE: &str = r##"
 <tr><th scope="row">R, Shift+R</th><td>chooses the next register of the chosen processor, the previous one</td></tr>
 <tr><th scope="row">W, Shift+W</th><td>who wrote the chosen register or word last, who writes it next</td></tr>
 </tbody></table>
-<p>Position <i>n</i> is the board after <i>n</i> events of the journal; <code>#at=17</code> at the end of the address leads to position 17.</p>
+<p>Position <i>n</i> is the board after <i>n</i> events of the journal; <code>#at=17</code> at the end of the address leads to position 17, and <code>#event=17</code> to the position after event 17.</p>
 </details>
 </main>
 <script id="data" type="application/json">"##;
@@ -172,6 +244,9 @@ pub(crate) const REST: &str = r##"</script>
 // of the next instruction, and the registers that aren't 0. A task is its number, state, priority, processor, what it
 // waits for, the object's ID, and the tick that ends the wait.
 //
+// All else that the page says is found here: which branches were taken, what is data, who called whom, and what stands
+// in the end.
+//
 // Text of the data comes into the page by textContent alone, so that it stays text.
 "use strict";
 
@@ -181,7 +256,9 @@ const from = run.from;
 const to = from + events.length;
 const NAMES = ("$zero $at $v0 $v1 $a0 $a1 $a2 $a3 $t0 $t1 $t2 $t3 $t4 $t5 $t6 $t7 $s0 $s1 $s2 $s3 $s4 $s5 $s6 $s7 "
   + "$t8 $t9 $k0 $k1 $gp $sp $fp $ra HI LO").split(" ");
-const SLOT = 34;
+const SLOT = 34, SP = 29;
+// What a function leaves as its caller had it: $s0 to $s7, $gp, $sp, $fp.
+const KEPT = [16, 17, 18, 19, 20, 21, 22, 23, 28, 29, 30];
 // The registers that are shown.
 const SHOWN = Array.from({ length: 33 }, (_, i) => i + 1);
 // How many rows of the listing are shown at a time, if it has more.
@@ -194,6 +271,8 @@ const signed = (word) => String(word | 0);
 const plain = (text) => text.replace(/[^ -~]/g, (c) => "\\x" + c.charCodeAt(0).toString(16).padStart(2, "0"));
 // The same, but newlines as they are.
 const lines = (text) => text.split("\n").map(plain).join("\n");
+// A label without the distance to it.
+const labelOf = (name) => name.replace(/\+0x[0-9a-f]+$/, "");
 
 function make(name, text, className) {
   const element = document.createElement(name);
@@ -210,7 +289,61 @@ const placeOf = (address) => {
   const row = rowAt.get(address);
   return row === undefined ? hex(address) : plain(run.listing[row][1]);
 };
-const wordName = (address) => plain(run.words[wordAt.get(address)][1]);
+
+// A word of a stack goes by where it is from the end of that, any other one by its name.
+function wordName(address) {
+  if (!rowAt.has(address)) {
+    for (const [who, { low, top }] of stacks) {
+      if (low <= address && address < top) return "stack of " + who + ", -" + (top - address);
+    }
+  }
+  return plain(run.words[wordAt.get(address)][1]);
+}
+
+// The name of an address of which something is known, and nothing of any other.
+function nameAt(address) {
+  const word = address - address % 4;
+  const name = wordAt.has(word) ? wordName(word) : rowAt.has(word) ? placeOf(word) : "";
+  if (name === "" || word === address) return name;
+  const found = /\+0x([0-9a-f]+)$/.exec(name);
+  return labelOf(name) + "+0x" + ((found ? parseInt(found[1], 16) : 0) + address % 4).toString(16);
+}
+
+// What a word may stand for: an address with a name, a number and a character, or four characters; or nothing of these.
+function meaning(word) {
+  const number = word | 0;
+  const name = nameAt(word);
+  if (name !== "") return name;
+  if (number > 31 && number < 127) return number + ", '" + String.fromCharCode(number) + "'";
+  if (number >= -32768 && number <= 9999999) return String(number);
+  const text = characters(word);
+  return /^[\w !,.:;?]{2,4}\u00b7*$/.test(text) ? "\"" + text + "\"" : "";
+}
+
+// A word with what it may stand for, if that says more than its digits.
+function valueOf(word) {
+  const text = word < 10 ? "" : meaning(word);
+  return hex(word) + (text === "" ? "" : " (" + text + ")");
+}
+
+// The four bytes of a word as characters, in the order in which they lie in memory.
+function characters(word) {
+  const bytes = [24, 16, 8, 0].map((bit) => (word >>> bit) & 255);
+  if (isBig === false) bytes.reverse();
+  return bytes.map((byte) => (byte > 31 && byte < 127 ? String.fromCharCode(byte) : "\u00b7")).join("");
+}
+
+// An instruction whose target goes by its name, where that has one.
+const withNames = (text) => /^[bj]/.test(text)
+  ? text.replace(/0x[0-9a-f]{8}$/, (target) => (rowAt.has(Number(target)) ? run.listing[rowAt.get(Number(target))][1]
+    : target)) : text;
+
+// The instruction of an event, as the listing has it; nothing where it isn't known.
+function instructionOf(i) {
+  const event = events[i];
+  if (event.i !== undefined) return event.i;
+  return rowAt.has(event.a) ? run.listing[rowAt.get(event.a)][2] : "";
+}
 
 // ---- states
 
@@ -255,17 +388,152 @@ function happen(state, event) {
   if (event.o) state.printed += event.o.length;
 }
 
-// States from which others are made, EACH events apart, and who executed each event.
+// ---- what is found by going through the run once
+
+// Who executed each event; of one in a delay slot, the event of its branch or jump; of such a one, where it leads.
+const executors = new Array(events.length);
+const branchOf = new Map();
+const ledTo = new Map();
+// The functions that its executor was in after each event: { place, back, at, kept, outer }, the innermost one.
+const inside = new Array(events.length);
+// Of a return, the function, and the registers that it hasn't left as they were.
+const unkept = new Map();
+// Of a store, the store of somebody else that it writes over, and its executor's load before that.
+const over = new Map();
+// Which addresses were executed; of those of service calls, the name of the call that was made there last.
+const executed = new Set();
+const calls = new Map();
+// Of a task or a handler the lowest and the highest $sp that were seen: the highest one is where its stack ends.
+const stacks = new Map();
+// Whether the first byte of a word is its highest one; undefined until a load or a store of a byte has shown it.
+let isBig;
+
+const isStore = (event) => event.m !== undefined && event.m.length === 3;
+const writesRegister = (event, number) => {
+  for (let i = 0; event.r && i < event.r.length; i += 2) if (event.r[i] === number) return event.r[i + 1];
+  return undefined;
+};
+
+const pending = new Map(), functions = new Map(), touched = new Map();
+
+// Finds what a branch or a jump leads to, by the event in its delay slot.
+function noteBranch(event, i, who, regs) {
+  const branch = pending.get(who);
+  const isNext = branch !== undefined && !event.q && event.a === events[branch].a + 4 && !/^accepts /.test(event.t);
+  if (isNext) {
+    pending.delete(who);
+    branchOf.set(i, branch);
+    if (event.r) {
+      ledTo.set(branch, event.p === undefined ? (event.a + 4) >>> 0 : event.p);
+      noteFunction(branch, i, who, regs);
+    }
+  }
+  if (writesRegister(event, SLOT) === 1) pending.set(who, i);
+}
+
+// Finds calls of functions, and returns from them.
+function noteFunction(branch, i, who, regs) {
+  const text = instructionOf(branch), place = ledTo.get(branch), back = events[branch].a + 8;
+  let called = functions.get(who);
+  if (CALLING.test(text) && place !== back) {
+    functions.set(who, { place, back, at: branch, kept: KEPT.map((number) => regs[number]), outer: called });
+  } else if (text === "jr $ra") {
+    while (called && called.back !== place) called = called.outer;
+    if (!called) return;
+    const changed = KEPT.filter((number, k) => regs[number] !== called.kept[k]);
+    if (changed.length > 0) unkept.set(i, { called, changed });
+    functions.set(who, called.outer);
+  }
+}
+
+// Finds stores over what somebody else has stored since their executor has loaded the word.
+function noteTouch(event, i, who) {
+  const [address] = event.m;
+  if (!touched.has(address)) touched.set(address, { store: -1, own: new Map() });
+  const word = touched.get(address);
+  const own = word.own.get(who);
+  if (isStore(event)) {
+    if (own !== undefined && !isStore(events[own]) && word.store > own && !isBeside(i, word.store)) {
+      over.set(i, { store: word.store, load: own });
+    }
+    word.store = i;
+  }
+  word.own.set(who, i);
+}
+
+// Whether two stores, of which one is of a part of the word, have changed different bytes of it.
+function isBeside(one, other) {
+  if (![one, other].some((i) => /^s[bh] /.test(instructionOf(i)))) return false;
+  const [first, second] = [one, other].map((i) => events[i].m[1] ^ events[i].m[2]);
+  return first !== 0 && second !== 0
+    && [0, 8, 16, 24].every((bit) => !((first >>> bit) & 255 && (second >>> bit) & 255));
+}
+
+// Finds by a load or a store of a byte which byte of its word that is.
+function noteOrder(event, i, regs) {
+  const found = /^(lbu?|sb) (\$\w+), (-?\d+)\((\$\w+)\)$/.exec(instructionOf(i));
+  if (!found) return;
+  const shift = 8 * ((regs[NAMES.indexOf(found[4])] + Number(found[3])) & 3);
+  const register = NAMES.indexOf(found[2]);
+  const byte = found[1] === "sb" ? regs[register] : writesRegister(event, register);
+  const word = event.m[event.m.length - 1];
+  const high = (word >>> (24 - shift)) & 255, low = (word >>> shift) & 255;
+  if (byte !== undefined && high !== low && [high, low].includes(byte & 255)) isBig = (byte & 255) === high;
+}
+
+// Finds where stacks are. ($sp is 0 where a handler begins, and may lead elsewhere for a while.)
+function noteStack(who, sp) {
+  const stack = stacks.get(who) || { low: sp, top: sp };
+  if (sp === 0 || Math.abs(sp - stack.top) > 65536) return;
+  stacks.set(who, { low: Math.min(stack.low, sp), top: Math.max(stack.top, sp) });
+}
+
+// Jumps and branches that link; the texts of service calls and of exceptions.
+const CALLING = /^(jal|jalr|b\w*all?) /;
+const CALL = /^(\w+)\(/;
+const FAULT = /^(AdEL|AdES|IBE|DBE|Bp|RI|Ov|Tr): /;
+
+function noteExecuted(event) {
+  const call = event.t === undefined ? null : CALL.exec(event.t);
+  if (call) calls.set(event.a, call[1]);
+  if (event.t === undefined || call || (FAULT.test(event.t) && !/^RI|fetch/.test(event.t))) executed.add(event.a);
+}
+
+// What is found of an event that somebody executed; the state is the one after it.
+function note(event, i, who, state) {
+  const { regs } = state.cpus[event.c - 1];
+  if (!event.q) noteExecuted(event);
+  if (event.m) noteTouch(event, i, who);
+  noteBranch(event, i, who, regs);
+  if (event.r) noteStack(who, regs[SP]);
+  if (CALL.test(event.t || "") && event.t.startsWith("ext_tsk(")) functions.delete(who);
+  inside[i] = functions.get(who);
+}
+
+// What is found of who executes from an event on.
+function noteSwitch(event) {
+  for (const entry of event.d || []) {
+    const cpu = loaded(entry);
+    noteStack(cpu.who, cpu.regs[SP]);
+    if (entry[1] === "handler") functions.delete(cpu.who);
+  }
+  for (const [id, name] of event.s || []) if (name === "dormant") functions.delete("task " + id);
+}
+
+// States from which others are made, EACH events apart.
 const EACH = Math.max(256, Math.ceil(events.length / 200));
 const frames = [];
-const executors = new Array(events.length);
 {
   const state = firstState();
+  for (const cpu of state.cpus) noteStack(cpu.who, cpu.regs[SP]);
   events.forEach((event, i) => {
     if (i % EACH === 0) frames.push(copied(state));
     const cpu = state.cpus[event.c - 1];
     executors[i] = event.a === undefined || !cpu ? "" : cpu.who;
+    if (isBig === undefined && event.m) noteOrder(event, i, cpu.regs);
     happen(state, event);
+    if (executors[i] !== "") note(event, i, executors[i], state);
+    noteSwitch(event);
   });
   if (events.length % EACH === 0) frames.push(copied(state));
 }
@@ -281,12 +549,6 @@ function stateAt(position) {
 }
 
 // ---- who wrote what: an item is a register of a processor, or a word of memory
-
-const isStore = (event) => event.m !== undefined && event.m.length === 3;
-const writesRegister = (event, number) => {
-  for (let i = 0; event.r && i < event.r.length; i += 2) if (event.r[i] === number) return event.r[i + 1];
-  return undefined;
-};
 
 function nameOf(item) {
   return item.word === undefined ? NAMES[item.register] + " of processor " + item.cpu : wordName(item.word);
@@ -324,40 +586,253 @@ function nextWriter(item, state, start) {
 
 const actor = (i) => "processor " + events[i].c + (executors[i] ? ", " + executors[i] : "");
 
-// What stores of others a store writes over that its executor hasn't seen, since he loaded the word before them.
+// That a store writes over what its executor hasn't seen, since he loaded the word before that.
 function writtenOver(i) {
-  const [address] = events[i].m;
-  let other = -1;
-  for (let j = i - 1; j >= 0; j--) {
-    const event = events[j];
-    if (!event.m || event.m[0] !== address) continue;
-    if (executors[j] === executors[i]) {
-      if (isStore(event) || other < 0) return "";
-      return "It writes over what " + actor(other) + " stored at event " + (from + other) + " ("
-        + hex(events[other].m[2]) + "), after the load at event " + (from + j) + " (" + hex(event.m[1]) + ").";
-    }
-    if (isStore(event) && other < 0) other = j;
+  if (!over.has(i)) return "";
+  const { store, load } = over.get(i);
+  return "It writes over what " + actor(store) + " stored at event " + (from + store) + " (" + hex(events[store].m[2])
+    + "), after the load at event " + (from + load) + " (" + hex(events[load].m[1]) + ").";
+}
+
+// That a function returns, and has changed what it should have left as it was.
+function notKept(i) {
+  if (!unkept.has(i)) return "";
+  const { called, changed } = unkept.get(i);
+  const names = changed.map((number) => NAMES[number] + " (it was " + hex(called.kept[KEPT.indexOf(number)]) + ")");
+  return placeOf(called.place) + " returns, and since its call at event " + (from + called.at) + " it has changed "
+    + names.join(", ") + ": a function leaves these as they were.";
+}
+
+const shown = (i) => plain(withNames(instructionOf(i)));
+const isBranch = (i) => events[i].t === undefined && /^[bj]/.test(instructionOf(i));
+const isConditional = (text) => text[0] === "b" && !/^(beql?|bgezall?) \$zero, (\$zero,|0x)/.test(text);
+
+// What a branch or a jump does.
+function way(i) {
+  const text = instructionOf(i), behind = (events[i].a + 8) >>> 0, to = ledTo.get(i);
+  if (writesRegister(events[i], SLOT) !== 1) return "not taken, and its delay slot is left out";
+  if (to === undefined) return "its delay slot is next";
+  if (isConditional(text) && to === behind) return "not taken";
+  if (CALLING.test(text)) return "calls " + placeOf(to) + ", to return to " + placeOf(behind);
+  if (text === "jr $ra") return "returns to " + placeOf(to);
+  return (isConditional(text) ? "taken, to " : "goes to ") + placeOf(to);
+}
+
+// What an event has to do with delay slots.
+function ways(i) {
+  const said = [];
+  if (isBranch(i)) said.push(way(i) + (ledTo.get(i) - events[i].a - 8 ? " after its delay slot" : ""));
+  if (branchOf.has(i)) {
+    const branch = branchOf.get(i);
+    said.push("in the delay slot of event " + (from + branch) + ", " + shown(branch)
+      + (ledTo.has(branch) ? ": " + way(branch) : ""));
   }
-  return "";
+  return said;
 }
 
 function wordsOf(i) {
   const event = events[i];
   const said = [];
   if (event.a !== undefined) said.push("at " + placeOf(event.a));
-  if (event.i !== undefined) said.push(plain(event.i));
-  else if (event.t === undefined && rowAt.has(event.a)) said.push(plain(run.listing[rowAt.get(event.a)][2]));
+  if (event.i !== undefined || (event.t === undefined && rowAt.has(event.a))) said.push(shown(i));
   if (event.t !== undefined) said.push(plain(event.t));
   if (event.t === undefined) {
     for (let j = 0; event.r && j < event.r.length; j += 2) {
-      if (event.r[j] !== SLOT) said.push(NAMES[event.r[j]] + " = " + hex(event.r[j + 1]));
+      if (event.r[j] !== SLOT) said.push(NAMES[event.r[j]] + " = " + valueOf(event.r[j + 1]));
     }
   }
   if (event.m) {
-    said.push(wordName(event.m[0]) + (isStore(event) ? " was " + hex(event.m[1]) + ", becomes " + hex(event.m[2])
-      : " is " + hex(event.m[1])));
+    said.push(wordName(event.m[0]) + (isStore(event) ? " was " + valueOf(event.m[1]) + ", becomes "
+      + valueOf(event.m[2]) : " is " + valueOf(event.m[1])));
   }
-  return (event.c === undefined ? "" : actor(i) + " ") + said.join("; ");
+  return (event.c === undefined ? "" : actor(i) + " ") + said.concat(ways(i)).join("; ");
+}
+
+// ---- what stands in the end
+
+const after = (i) => "event " + (from + i);
+const textsOf = (pattern) => events.flatMap((event, i) => {
+  const found = event.t === undefined ? null : pattern.exec(event.t);
+  return found ? [{ i, found }] : [];
+});
+
+// Texts, with how often each comes and first in which event.
+function counted(found) {
+  const texts = new Map();
+  for (const { text, i } of found) {
+    if (!texts.has(text)) texts.set(text, { text, i, times: 0 });
+    texts.get(text).times++;
+  }
+  return [...texts.values()].map(({ text, i, times }) => ({ i, text: text
+    + (times > 1 ? " (" + times + " times)" : "") }));
+}
+
+const faults = () => textsOf(FAULT).map(({ i }) => ({ i, text: actor(i) + " at " + placeOf(events[i].a) + ": "
+  + plain(events[i].t) }));
+const refused = () => counted(events.flatMap((event, i) =>
+  [...(event.t || "").matchAll(/(\w+)\([^)]*\) = (E_(?!OK)\w+)/g)]
+    .map(([, call, answer]) => ({ text: call + " is answered with " + answer, i }))));
+const lost = () => counted(textsOf(/^line (\d+) (is pending already|has no handler)/)
+  .map(({ i, found }) => ({ text: "the interrupt of line " + found[1] + " is raised without effect, since it "
+    + found[2], i })));
+const overwritten = () => counted([...over].map(([i, { store }]) => ({ text: executors[i] + " stores to "
+  + wordName(events[i].m[0]) + " over what " + executors[store] + " has stored since it loaded the word", i })));
+const spoilt = () => counted([...unkept].map(([i, { called, changed }]) => ({ text: placeOf(called.place)
+  + " returns with another " + changed.map((number) => NAMES[number]).join(", ") + " than it was called with", i })));
+
+// Since which event a task is in its state.
+function since(id, last) {
+  let found = -1;
+  let name = "";
+  events.forEach((event, i) => {
+    for (const entry of event.s || []) {
+      if (entry[0] !== id) continue;
+      if (entry[1] !== name) found = i;
+      name = entry[1];
+    }
+  });
+  return name === last ? found : -1;
+}
+
+function waiting(state) {
+  return state.tasks.filter((task) => task[4] !== undefined).map(([id, name, , , reason, object, due]) => ({
+    text: "task " + id + " is " + name + " " + reason + (object ? " " + object : "")
+      + (due === undefined ? "" : ", until tick " + due), i: since(id, name) }));
+}
+
+const UNIT = /(?:(task \d+): )?(\w+_sem)\((-?\d+)[^)]*\) = E_OK/g;
+
+// Semaphores that serve as locks, with the tasks that have taken a unit and not given it back, and when.
+function units() {
+  const held = new Map(), noLock = new Set();
+  events.forEach((event, i) => {
+    for (const [, other, call, number] of (event.t || "").matchAll(UNIT)) {
+      const who = other || executors[i], id = Number(number);
+      const own = held.get(id) || [];
+      const last = own.findLastIndex((unit) => unit.who === who);
+      if (!/sig_sem$/.test(call)) own.push({ who, i });
+      else if (last >= 0) own.splice(last, 1);
+      else noLock.add(id);
+      held.set(id, own);
+    }
+  });
+  for (const id of noLock) held.delete(id);
+  return held;
+}
+
+// Tasks that wait without an end for semaphores that only tasks among them have taken.
+function circle(state) {
+  const held = units();
+  let those = state.tasks.filter((task) => task[4] === "for semaphore" && task[6] === undefined);
+  for (let before = -1; before !== those.length;) {
+    before = those.length;
+    const names = new Set(those.map(([id]) => "task " + id));
+    those = those.filter((task) => (held.get(task[5]) || []).length > 0
+      && held.get(task[5]).every((unit) => names.has(unit.who)));
+  }
+  return those.map(([id, , , , , object]) => "task " + id + " waits for semaphore " + object + ", which "
+    + held.get(object).map((unit) => unit.who + " took at " + after(unit.i)).join(" and "));
+}
+
+// Whether an idle processor may be about to accept an interrupt: one is raised since its last step, and pending.
+function isRaised(state) {
+  const raised = new Map();
+  for (const { i, found } of textsOf(/^(the|accepts the) interrupt of line (\d+)/)) {
+    if (found[1] === "the") raised.set(found[2], i);
+    else raised.delete(found[2]);
+  }
+  const last = Math.max(-1, ...raised.values());
+  return state.cpus.some((cpu) => cpu.who === "idle"
+    && events.findLastIndex((event) => event.c === cpu.number) < last);
+}
+
+// Whether tasks wait, and nothing that is under way ends a wait.
+function isDeadlock(state) {
+  return !state.off && state.cpus.every((cpu) => !cpu.executes) && !isRaised(state)
+    && state.tasks.some((task) => task[4] !== undefined)
+    && state.tasks.every((task) => task[1] !== "ready" && task[6] === undefined);
+}
+
+// How many own steps a processor that goes round needs for a round that changes nothing; 0 if none is seen.
+function round(number, end) {
+  const own = [];
+  for (let i = events.length - 1; i >= 0 && own.length < 513; i--) {
+    const event = events[i];
+    if ((event.d || []).some((entry) => entry[0] === number)) break;
+    if (event.c !== number) continue;
+    if (event.t !== undefined || isStore(event) || !event.r) break;
+    own.unshift(i);
+  }
+  if (own.length === 0) return 0;
+  const state = stateAt(from + own[0]);
+  const { pc, regs } = end.cpus[number - 1];
+  let found = 0;
+  for (let i = own[0], done = 0; done < own.length; i++) {
+    const cpu = state.cpus[number - 1];
+    if (i === own[done]) {
+      if (cpu.pc === pc && cpu.regs.every((word, k) => word === regs[k])) found = own.length - done;
+      done++;
+    }
+    happen(state, events[i]);
+  }
+  return found;
+}
+
+function spins(state) {
+  return state.cpus.flatMap((cpu) => {
+    if (!cpu.executes || state.off) return [];
+    const who = "processor " + cpu.number + ", " + cpu.who + ", ";
+    const last = events.findLastIndex((event) => event.c === cpu.number);
+    const asks = last < 0 || !events[last].q ? null : /spins for lock (\d+)/.exec(events[last].t);
+    if (asks) return [{ text: who + "spins: it asks for spin lock " + asks[1] + ", which is held" }];
+    const steps = round(cpu.number, state);
+    return steps === 0 ? [] : [{ text: who + "spins at " + placeOf(cpu.pc) + ": its last " + steps
+      + " instructions changed nothing" }];
+  });
+}
+
+// All that is said of the end: a heading, and lines.
+function endOf() {
+  const state = stateAt(to);
+  const off = events.findIndex((event) => event.x);
+  const heads = [off >= 0 ? "the board went off at " + after(off) : state.off ? "the board is off" : "the board is on"];
+  const found = [];
+  const add = (name, rows) => {
+    if (rows.length > 0) heads.push(rows.length === 1 ? name[0] : rows.length + " " + name[1]);
+    found.push(...rows);
+  };
+  if (from === 0 && isDeadlock(state)) {
+    add(["deadlock"], [{ text: "deadlock: no task is ready, and no tick and no pending interrupt releases one that "
+      + "waits" }]);
+  }
+  const those = from === 0 ? circle(state) : [];
+  if (those.length > 0) add(["circular wait"], [{ text: "circular wait: " + those.join("; ") }]);
+  add(["a processor spins", "processors spin"], spins(state));
+  add(["an exception", "exceptions"], faults());
+  add(["a store over an unseen one", "kinds of stores over unseen ones"], overwritten());
+  add(["a register that a function didn't keep", "kinds of registers that functions didn't keep"], spoilt());
+  add(["an error of a call", "kinds of errors of calls"], refused());
+  add(["an interrupt without effect", "interrupts without effect"], lost());
+  found.push(...waiting(state));
+  return { heads, found };
+}
+
+// How many lines of the end are shown.
+const MOST = 40;
+
+function showEnd() {
+  const { heads, found } = endOf();
+  byId("end").textContent = (to === from ? "At the only position: " : "In the end: ") + heads.join("; ") + ".";
+  const rows = found.slice(0, MOST).map(({ text, i }) => {
+    const line = make("li");
+    if (i !== undefined && i >= 0) line.append(eventLink(i, after(i)), ": ");
+    line.append(text);
+    return line;
+  });
+  if (found.length > MOST) rows.push(make("li", "and " + (found.length - MOST) + " more"));
+  if (rows.length === 0) rows.push(make("li", "no task waits, and nothing of note has happened"));
+  byId("ends").querySelector("ul").replaceChildren(...rows);
+  byId("ends").hidden = false;
 }
 
 // ---- the page
@@ -452,12 +927,14 @@ function label(button, text, spoken, isChanged) {
   button.classList.toggle("changed", isChanged);
 }
 
+const textAt = (address) => (rowAt.has(address) ? " " + plain(withNames(run.listing[rowAt.get(address)][2])) : "");
+
 function showProcessors(changed) {
   for (const panel of panels) {
     const cpu = state.cpus[panel.number - 1];
     panel.title.textContent = "Processor " + panel.number + ": " + (state.off ? "off" : cpu.who);
-    panel.who.textContent = cpu.executes ? "next: " + hex(cpu.pc) + " " + placeOf(cpu.pc)
-      + (cpu.regs[SLOT] ? " (in a delay slot)" : "") : "executes nothing";
+    panel.who.textContent = cpu.executes ? "next: " + hex(cpu.pc) + " " + placeOf(cpu.pc) + textAt(cpu.pc)
+      + (cpu.regs[SLOT] ? ", in the delay slot of" + textAt(cpu.pc - 4) : "") : "executes nothing";
     panel.list.hidden = !cpu.executes;
     panel.buttons.forEach((button) => {
       const { register } = button.item;
@@ -478,7 +955,7 @@ const wordRows = run.words.map(([address]) => {
   row.button = itemButton({ word: address });
   first.append(row.button);
   row.line.append(first);
-  for (const text of [hex(address), "", "", ""]) {
+  for (const text of [hex(address), "", "", "", ""]) {
     const cell = make("td", text);
     row.cells.push(cell);
     row.line.append(cell);
@@ -496,15 +973,156 @@ function showMemory(changed) {
     row.line.classList.toggle("changed", isChanged);
     row.cells[1].textContent = hex(state.words[i]);
     row.cells[2].textContent = signed(state.words[i]);
-    row.cells[3].textContent = !touched ? "" : isChanged ? "stored" : "loaded";
+    row.cells[3].textContent = characters(state.words[i]);
+    row.cells[4].textContent = !touched ? "" : isChanged ? "stored" : "loaded";
   });
 }
+
+// ---- the stack of who executes
+
+// How many words of a stack are shown.
+const DEEP = 64;
+
+// The functions that somebody is in, after some events: the innermost one.
+function insideOf(who, count) {
+  for (let i = count - 1; i >= 0; i--) if (executors[i] === who) return inside[i];
+  return undefined;
+}
+
+// Who stored a word of the stack, and what: "$ra of print".
+function savedBy(address) {
+  const i = lastWriter({ word: address }, state, position - from);
+  if (i < 0) return "";
+  const found = /^sw (\$\w+), .*\$[sf]p\)$/.exec(instructionOf(i));
+  const place = inside[i] ? inside[i].place : events[i].a;
+  return (found ? found[1] + " in " : "in ") + placeOf(place) + ", event " + (from + i);
+}
+
+function stackRow(address, sp) {
+  const line = make("tr", undefined, isStoredNow(address) ? "changed" : "");
+  const word = state.words[wordAt.get(address)];
+  for (const text of ["$sp" + (address === sp ? "" : "+" + (address - sp)), hex(address), hex(word), meaning(word),
+    savedBy(address)]) line.append(make("td", text));
+  return line;
+}
+
+const isStoredNow = (address) => position > from && isStore(events[position - from - 1])
+  && events[position - from - 1].m[0] === address;
+
+// The functions that somebody is in, from the innermost one outwards, in words.
+function pathOf(who) {
+  const path = [];
+  let called = insideOf(who, position - from);
+  for (; called && path.length < 8; called = called.outer) {
+    path.push("in " + placeOf(called.place) + ", called at " + placeOf(events[called.at].a));
+  }
+  return path.join("; ") + (called ? "; \u2026" : "");
+}
+
+function showStack() {
+  const { who, regs, executes } = state.cpus[followedCpu() - 1] || { regs: [] };
+  const sp = regs[SP], { top } = stacks.get(who) || {}, rows = [];
+  for (let i = 0; executes && top > sp && i < DEEP && sp + 4 * i < top; i++) {
+    if (wordAt.has(sp + 4 * i)) rows.push(stackRow(sp + 4 * i, sp));
+  }
+  const box = byId("stack");
+  box.querySelector("tbody").replaceChildren(...rows);
+  box.querySelector(".scrolls").hidden = rows.length === 0;
+  const used = top >= sp && sp !== 0 ? ": " + (top - sp) + " bytes are in use" : "";
+  byId("path").textContent = !executes ? "nobody executes here"
+    : [who + used, pathOf(who)].filter((text) => text !== "").join("; ");
+}
+
+// ---- data in the listing
+
+// What is known of the words behind each label: whether one is executed; whether one is loaded or stored; and whether
+// one is an instruction other than NOP, which is the word 0.
+const regions = new Map();
+for (const [address, name, text] of run.listing) {
+  const label = labelOf(name);
+  if (!regions.has(label)) regions.set(label, { runs: false, holds: false, acts: false });
+  const region = regions.get(label);
+  if (executed.has(address)) region.runs = true;
+  if (wordAt.has(address)) region.holds = true;
+  if (text !== "nop" && !text.startsWith(".word")) region.acts = true;
+}
+
+// Whether a row of the listing is of data: nobody executes it, and it is loaded or stored, or is no instruction, or all
+// behind its label is so.
+function isData([address, name, text]) {
+  const { runs, holds, acts } = regions.get(labelOf(name));
+  return !executed.has(address)
+    && (wordAt.has(address) || text.startsWith(".word") || (!runs && (holds || !acts)));
+}
+
+const asData = (word) => ".word 0x" + hex(word) + "  # " + signed(word) + ", \"" + characters(word) + "\"";
+
+// What a row of the listing says: data are as they are now, if that is known.
+function rowText(row) {
+  const [address, , text] = row;
+  if (!isData(row)) return plain(withNames(text)) + (calls.has(address) ? "  # " + calls.get(address) : "");
+  if (wordAt.has(address)) return asData(state.words[wordAt.get(address)]);
+  if (text === "nop") return asData(0);
+  return text.startsWith(".word") ? asData(Number(text.slice(6))) : plain(text) + "  # not executed";
+}
+
+// ---- the text of the source, if the reader gives it
+
+// The line of source of an address.
+const sourceOf = new Map(run.listing.filter((row) => row.length > 3).map((row) => [row[0], row[3]]));
+const placeNamed = new Map([...run.listing, ...run.words].map(([address, name]) => [name, address]));
+// The instructions that shorthands stand for, and directives behind which the next thing stands where they do.
+const SHORT = { nop: "sll", move: "addu", b: "beq", beqz: "beq", bnez: "bne", bal: "bgezal" };
+const STILL = [".globl", ".set", ".equ", ".byteorder"];
+
+const mnemonicOf = (text) => {
+  const name = text.toLowerCase().split(" ")[0];
+  return SHORT[name] || name;
+};
+
+// The lines of assembler source by address, as far as these are known: each instruction is a word. Where one is another
+// than that of the listing, the number of that line.
+function assembled(lines) {
+  const found = new Map();
+  let place = 0x80000000;
+  for (const [i, line] of lines.entries()) {
+    let text = line.replace(/^\s+/, "");
+    for (let label; (label = /^([\w.$]+)\s*:\s*/.exec(text)); text = text.slice(label[0].length)) {
+      if (placeNamed.has(label[1])) place = placeNamed.get(label[1]);
+    }
+    const name = (/^[.\w]+/.exec(text) || [""])[0].toLowerCase();
+    if (name === "" || STILL.includes(name) || place === undefined) continue;
+    const row = rowAt.get(place);
+    const own = row === undefined || isData(run.listing[row]) ? "" : mnemonicOf(run.listing[row][2]);
+    if (name[0] !== "." && own !== "" && mnemonicOf(name) !== own) return i + 1;
+    found.set(place, line.trim().replace(/\s+/g, " "));
+    if (name[0] !== ".") place += 4;
+    else place = name === ".word" ? place + 4 * text.split("#")[0].split(",").length : undefined;
+  }
+  return found;
+}
+
+// Puts the lines of a file beside the words that they have made.
+function giveSource(name, text) {
+  const found = assembled(text.split(/\r?\n/));
+  if (typeof found === "number") {
+    return say(name + " isn't the source of this run: line " + found + " has another instruction than the listing.");
+  }
+  for (const [address, line] of found) sourceOf.set(address, line);
+  firstRow = -1;
+  show();
+  say("The lines of " + name + " stand in the listing.");
+}
+
+byId("source").addEventListener("change", () => {
+  const [file] = byId("source").files;
+  if (file) file.text().then((text) => giveSource(file.name, text));
+});
 
 // ---- the listing
 
 const listing = byId("listing");
 const listBody = listing.querySelector("tbody");
-listing.classList.toggle("has-source", run.listing.some((row) => row.length > 3));
 let firstRow = -1;
 
 // The processor whose next instruction is kept in sight: the chosen one, or another if that executes nothing.
@@ -521,6 +1139,7 @@ function showListing() {
     : Math.max(0, Math.min(run.listing.length - ROWS, centre - (centre % (ROWS / 4)) - ROWS / 2));
   if (start !== firstRow) {
     firstRow = start;
+    byId("views").classList.toggle("has-source", sourceOf.size > 0);
     listBody.replaceChildren();
     for (let i = start; i < Math.min(start + ROWS, run.listing.length); i++) putRow(i);
   }
@@ -529,8 +1148,14 @@ function showListing() {
     const here = state.cpus.filter((cpu) => cpu.executes && !state.off && cpu.pc === line.address)
       .map((cpu) => cpu.number);
     line.classList.toggle("here", here.length > 0);
+    if (line.isData) line.cells[3].textContent = rowText(line.row);
     line.cells[0].textContent = here.length === 0 ? "" : "cpu " + here.join(", ") + " \u25b8";
-    if (here.includes(followed)) reveal(line);
+    if (here.includes(followed)) {
+      line.setAttribute("aria-current", "step");
+      reveal(line);
+    } else line.removeAttribute("aria-current");
+    const button = line.querySelector(".item");
+    if (button) button.tabIndex = here.includes(followed) ? 0 : -1;
   }
 }
 
@@ -542,7 +1167,7 @@ function centreRow(followed) {
 }
 
 function putRow(i) {
-  const [address, name, text, source] = run.listing[i];
+  const [address, name] = run.listing[i];
   if (i > 0 && run.listing[i - 1][0] + 4 !== address) {
     const gap = make("tr", undefined, "gap");
     const cell = make("td", "\u2026");
@@ -551,11 +1176,48 @@ function putRow(i) {
     listBody.append(gap);
   }
   const line = make("tr", undefined, name.includes("+0x") ? "" : "label");
-  line.address = address;
-  line.append(make("td"), make("td", hex(address)), make("td", plain(name)), make("td", plain(text)),
-    make("td", source === undefined ? "" : plain(source), "source"));
+  Object.assign(line, { address, row: run.listing[i], isData: isData(run.listing[i]) });
+  const cell = make("td");
+  cell.append(line.isData ? hex(address) : lineButton(address));
+  if (!line.isData && !executed.has(address)) line.classList.add("unused");
+  line.append(make("td"), cell, make("td", plain(shortName(i))), make("td", rowText(run.listing[i])),
+    make("td", plain(sourceOf.get(address) || ""), "source"));
   listBody.append(line);
 }
+
+// The name of a row, without the label if the row before has the same.
+function shortName(i) {
+  const [address, name] = run.listing[i];
+  const before = run.listing[i - 1];
+  return before && before[0] + 4 === address && labelOf(before[1]) === labelOf(name)
+    ? name.slice(labelOf(name).length) : name;
+}
+
+// A button that runs on to a line.
+function lineButton(address) {
+  const button = make("button", hex(address), "item");
+  button.type = "button";
+  button.tabIndex = -1;
+  button.line = address;
+  button.setAttribute("aria-label", hex(address) + ": on to where " + placeOf(address) + " is executed next");
+  button.title = "on to here";
+  button.addEventListener("click", (event) => runTo(address, event.shiftKey ? -1 : 1));
+  return button;
+}
+
+// Goes to where somebody is about to execute an address, next or last.
+function runTo(address, step) {
+  let i = position - from + step;
+  if (step > 0 && !isAt(position - from, address)) i = position - from;
+  while (i >= 0 && i < events.length && !isAt(i, address)) i += step;
+  if (i < 0 || i >= events.length) {
+    return say(placeOf(address) + " is executed no " + (step > 0 ? "more" : "earlier") + " in this page.");
+  }
+  chosenCpu = events[i].c;
+  go(from + i, "Here " + actor(i) + " is about to execute " + placeOf(address) + ".");
+}
+
+const isAt = (i, address) => i < events.length && events[i].a === address && executors[i] !== "" && !events[i].q;
 
 // Scrolls the listing, and nothing else, so that a row is seen.
 function reveal(line) {
@@ -583,22 +1245,34 @@ function showTasks() {
   byId("time").textContent = "tick " + state.tick + (state.off ? "; the board is off" : "");
 }
 
+// A link to the position after an event.
+function eventLink(i, text) {
+  const link = make("a", text);
+  link.href = "#event=" + (from + i);
+  link.dataset.event = from + i;
+  link.setAttribute("aria-label", "to the position after event " + (from + i));
+  link.addEventListener("click", (event) => {
+    event.preventDefault();
+    go(from + i + 1);
+  });
+  return link;
+}
+
 function showEvents() {
   const shown = [];
+  const focused = document.activeElement && document.activeElement.closest("#events a");
   const count = position - from;
   for (let i = Math.max(0, count - 5); i < Math.min(events.length, count + 4); i++) {
     const line = make("li");
-    const button = make("button", String(from + i), "item");
-    button.type = "button";
-    button.tabIndex = -1;
-    button.setAttribute("aria-label", "to the position after event " + (from + i));
-    button.addEventListener("click", () => go(from + i + 1));
-    line.append(button, " " + wordsOf(i));
+    line.append(eventLink(i, String(from + i)), " " + wordsOf(i));
     if (i === count - 1) line.setAttribute("aria-current", "true");
     if (i >= count) line.className = "later";
     shown.push(line);
   }
-  byId("events").querySelector("ol").replaceChildren(...shown);
+  const list = byId("events").querySelector("ol");
+  list.replaceChildren(...shown);
+  const again = focused && list.querySelector(`[data-event="${focused.dataset.event}"]`);
+  if (again) again.focus();
 }
 
 // ---- moves
@@ -615,7 +1289,7 @@ function go(wanted, answer) {
   if (answer) said.push(answer);
   said.push("Position " + position + (position > from ? ", after event " + (position - 1) + ": "
     + wordsOf(position - from - 1) + "." : ", the first of this page."));
-  if (position > from && isStore(events[position - from - 1])) said.push(writtenOver(position - from - 1));
+  if (position > from) said.push(writtenOver(position - from - 1), notKept(position - from - 1));
   say(said.filter((text) => text !== "").join("\n"));
   clearTimeout(addressed);
   addressed = setTimeout(() => history.replaceState(null, "", "#at=" + position), 100);
@@ -627,10 +1301,13 @@ function show() {
   showListing();
   showProcessors(changed);
   showMemory(changed);
+  showStack();
   showTasks();
   byId("console").querySelector("pre").textContent = lines(output.slice(0, state.printed));
   showEvents();
   byId("at").value = position;
+  byId("slider").value = position;
+  byId("slider").setAttribute("aria-valuetext", "position " + position + " of " + from + " to " + to);
   byId("cpu").value = chosenCpu;
   document.querySelector(".chosen").textContent = item === null ? "this" : nameOf(item);
   for (const button of document.querySelectorAll("button.item")) {
@@ -700,27 +1377,88 @@ const moves = {
   "next-writer": askNext,
 };
 
+// ---- playing
+
+let timer = 0;
+
+// Plays on, some events a second, until the last one or until somebody stops it. Meanwhile nothing is read aloud.
+function play() {
+  if (timer !== 0) return pause();
+  if (position === to) go(from);
+  const speed = Number(byId("speed").value);
+  const between = Math.max(1000 / speed, 50);
+  byId("said").setAttribute("aria-live", "off");
+  byId("play").textContent = "Pause";
+  timer = setInterval(() => {
+    go(position + Math.round(speed * between / 1000));
+    if (position === to) pause();
+  }, between);
+}
+
+function pause() {
+  clearInterval(timer);
+  timer = 0;
+  byId("said").setAttribute("aria-live", "polite");
+  byId("play").textContent = "Play";
+}
+
+moves.play = play;
+byId("speed").addEventListener("change", () => {
+  if (timer === 0) return;
+  pause();
+  play();
+});
+byId("slider").addEventListener("input", () => go(Number(byId("slider").value)));
+
 const KEYS = { ArrowRight: moves.on, ArrowLeft: moves.back, Home: moves.first, End: moves.last, c: moves["later-own"],
   C: moves["earlier-own"], h: moves["later-happening"], H: moves["earlier-happening"], w: askLast, W: askNext,
   m: () => cycle(words(), 1), M: () => cycle(words(), -1), r: () => cycle(registers(), 1),
-  R: () => cycle(registers(), -1), g: () => byId("at").select() };
+  R: () => cycle(registers(), -1), g: () => byId("at").select(), p: play, l: toListing };
+
+// Puts the focus on the line of the listing where the followed processor is.
+function toListing() {
+  const button = listBody.querySelector("[aria-current] .item");
+  if (button) button.focus();
+  else say("No line of the listing is next.");
+}
 
 // The items of memory, and those of the chosen processor.
 const words = () => wordRows.map((row) => row.button.item);
 const registers = () => panels.filter((panel) => panel.number === chosenCpu && !panel.list.hidden)
   .flatMap((panel) => panel.buttons.map((button) => button.item));
 
+// Whether an element has a use of its own for a key.
+function needsKey(element, key) {
+  if (element.id === "slider") return /^(Arrow|Page|Home|End)/.test(key);
+  if (element.closest("#at, select, #source")) return key !== "Escape";
+  return false;
+}
+
+// What up and down do in a list of buttons.
+function moveIn(button, step) {
+  if (button.item) return cycle(button.item.word === undefined ? registers() : words(), step);
+  const all = [...listBody.querySelectorAll(".item")];
+  const next = all[all.indexOf(button) + step];
+  if (next) next.focus();
+}
+
 document.addEventListener("keydown", (event) => {
-  if (event.ctrlKey || event.altKey || event.metaKey || event.target.closest("input, select, summary")) return;
+  if (event.ctrlKey || event.altKey || event.metaKey || needsKey(event.target, event.key)) return;
   const cpu = Number(event.key);
-  const own = event.target.item;
-  if (own && (event.key === "ArrowDown" || event.key === "ArrowUp")) {
-    cycle(own.word === undefined ? registers() : words(), event.key === "ArrowDown" ? 1 : -1);
-  } else if (KEYS[event.key]) KEYS[event.key]();
+  const vertical = { ArrowDown: 1, ArrowUp: -1 }[event.key];
+  if (vertical && event.target.matches("button.item")) moveIn(event.target, vertical);
+  else if (event.key === "Escape" && event.target.closest("#at, select")) leaveField();
+  else if (KEYS[event.key]) KEYS[event.key]();
   else if (panels.some((panel) => panel.number === cpu)) chooseCpu(cpu);
   else return;
   event.preventDefault();
 });
+
+// Leaves a field for the button of the next step, so that keys are moves again.
+function leaveField() {
+  byId("at").value = position;
+  byId("on").focus();
+}
 
 function chooseCpu(cpu) {
   chosenCpu = cpu;
@@ -731,15 +1469,34 @@ function chooseCpu(cpu) {
 for (const button of document.querySelectorAll("[data-do]")) {
   button.addEventListener("click", moves[button.dataset.do]);
 }
-byId("at").addEventListener("change", () => {
-  go(/^[0-9]+$/.test(byId("at").value) ? Number(byId("at").value) : position);
+const goToField = () => go(/^[0-9]+$/.test(byId("at").value) ? Number(byId("at").value) : position);
+byId("at").addEventListener("change", goToField);
+byId("at").addEventListener("keydown", (event) => {
+  if (event.key !== "Enter") return;
+  event.preventDefault();
+  goToField();
+  leaveField();
 });
 byId("cpu").addEventListener("change", () => chooseCpu(Number(byId("cpu").value)));
 window.addEventListener("hashchange", goToAddress);
 
+// The page is called as its file is, without the ending.
+function showName() {
+  let file = location.pathname.split("/").pop();
+  try {
+    file = decodeURIComponent(file);
+  } catch {
+    // (It has a % that stands for itself, and stays as it is.)
+  }
+  file = file.replace(/\.html?$/, "");
+  if (file === "") return;
+  document.title = plain(file) + ": a run of the board";
+  document.querySelector("h1").textContent = document.title;
+}
+
 function goToAddress() {
-  const found = /^#at=([0-9]+)$/.exec(location.hash);
-  go(found ? Number(found[1]) : position);
+  const found = /^#(at|event)=([0-9]+)$/.exec(location.hash);
+  go(found ? Number(found[2]) + (found[1] === "event" ? 1 : 0) : position);
 }
 
 for (const panel of panels) {
@@ -751,6 +1508,11 @@ for (const panel of panels) {
 if (wordRows.length > 0) wordRows[0].button.isFirst = true;
 byId("memory").querySelector("tbody").append(...wordRows.map((row) => row.line));
 byId("range").textContent = "of " + from + " to " + to;
+byId("slider").min = from;
+byId("slider").max = to;
+byId("order").hidden = isBig !== undefined;
+showName();
+showEnd();
 byId("run").hidden = false;
 goToAddress();
 </script>

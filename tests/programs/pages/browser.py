@@ -11,7 +11,8 @@ import time
 
 # The keys that the tests press, as the protocol names them: key, code, the code of Windows.
 KEYS = {"ArrowRight": ("ArrowRight", 39), "ArrowLeft": ("ArrowLeft", 37), "ArrowDown": ("ArrowDown", 40),
-        "Home": ("Home", 36), "End": ("End", 35), "Enter": ("Enter", 13), "Tab": ("Tab", 9)}
+        "Home": ("Home", 36), "End": ("End", 35), "Enter": ("Enter", 13), "Tab": ("Tab", 9),
+        "Escape": ("Escape", 27)}
 
 
 class Browser:
@@ -116,6 +117,12 @@ class Browser:
             event["text"] = "\r"
         self.ask("Input.dispatchKeyEvent", {"type": "keyDown", **event})
         self.ask("Input.dispatchKeyEvent", {"type": "keyUp", **event})
+
+    def choose(self, field, path):
+        """Chooses a file in a field of the page."""
+        node = self.ask("DOM.getDocument")["root"]["nodeId"]
+        node = self.ask("DOM.querySelector", {"nodeId": node, "selector": field})["nodeId"]
+        self.ask("DOM.setFileInputFiles", {"nodeId": node, "files": [str(path)]})
 
     def troubles(self):
         """What went wrong in the page: exceptions, messages of the console, and requests."""
