@@ -17,7 +17,7 @@ PREFIX = /usr/local
 DESTDIR =
 PACKAGE = build/board.deb
 
-.PHONY: unpack demo check board dist test attack compare qemu fuzz firmware gate-times bench bench-parts install uninstall package clean
+.PHONY: unpack demo sheet check board dist test attack compare qemu fuzz firmware gate-times bench bench-parts install uninstall package clean
 
 # Runs the examples on the program of dist/.
 demo: unpack
@@ -27,6 +27,11 @@ demo: unpack
 # missing is skipped, and says so.
 check: unpack
 	tests/gate/commands --without-toolchain $(BOARD)
+
+# A sheet of one page with registers, calls, answers and commands, for printing: build/sheet.html.
+sheet:
+	mkdir -p build
+	page/sheet build/sheet.html
 
 # Unpacks the program of dist/ to build/board.
 unpack:

@@ -90,6 +90,7 @@ else
         if [ "$word" = passed ]; then pass "page: $name in a browser"; else fail "page: $name in a browser" "$wrong"; fi
     done < <(tests/programs/pages/compare "$chromium" "$board" < "$work/pages" 2>&1)
     check_script "page: moves in a browser" tests/programs/pages/moves "$chromium" "$work"
+    check_script "the sheet for printing" tests/programs/pages/sheet "$chromium" "$work/sheet.html"
     check_script "page: everybody can use it" tests/programs/pages/access "$chromium" "$work/functions.html" \
         "$work/lost_update-racy.html" "$work/deadlock.html"
 fi
