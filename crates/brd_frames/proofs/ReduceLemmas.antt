@@ -1,32 +1,38 @@
 -- Behind every board to which events lead from a place of a tree there is a place of the tree.
-use Rattle.std.proofs.Common.{◌≡◌, ℕ, zero, suc, Bool, true, false, List, [], ◌∷◌, ◌++◌, length, length-set, refl, sym, ap, subst, ◌∙◌, ◌⊎◌, inl, inr}
-use Rattle.std.specs.Prelude.{if◌then◌else◌, ◌||◌, ◌-◌, ◌<◌, slice_set, Option, None, Some, is_some}
+use Rattle.std.proofs.Common.{◌≡◌, ℕ, zero, suc, Bool, true, false, List, [], ◌∷◌, ◌++◌, length-set, refl, sym, ap, subst, ◌∙◌, ◌⊎◌, inl, inr}
+use Rattle.std.specs.Prelude.{if◌then◌else◌, ◌-◌, ◌<◌, ◌==◌, not, Option, None, Some, is_some, is_ok}
 use Rattle.std.specs.Option.{option_map}
-use Rattle.std.proofs.lemmas.Bool.{false≢true, true≢false}
+use Rattle.std.proofs.lemmas.Bool.{false≢true, true≢false, and_parts, eqb-true}
 use Rattle.brd_base.specs.Space.{base}
 use Rattle.brd_mem.specs.Memory.{with_bytes}
 use Rattle.brd_exec.specs.State.{State}
+use Rattle.brd_tasks.specs.declared.task.Task.{Task}
+use Rattle.brd_tasks.specs.Status.{is_dormant}
+use Rattle.brd_tasks.specs.Tasks.{task_at}
 use Rattle.brd_kernel.specs.declared.processor.Executor.{Executor}
 use Rattle.brd_kernel.specs.declared.processor.Executor.TheVariants as executor
+use Rattle.brd_kernel.specs.declared.call.Call.{Call}
+use Rattle.brd_kernel.specs.declared.call.Call.TheVariants as call
 use Rattle.brd_kernel.specs.Kernel.{KernelState, executor_on, deliverable}
 use Rattle.brd_kernel.specs.Always.{HasPlace}
-use Rattle.brd_link.specs.LinkSet.{LinkSet}
+use Rattle.brd_kernel.specs.Services.{named, caller_on, serve_by}
 use Rattle.brd_board.specs.declared.event.Event.{Event}
 use Rattle.brd_board.specs.declared.event.Event.TheVariants.{Step, Tick, Raise}
 use Rattle.brd_board.specs.declared.event.Report.TheVariants as report
 use Rattle.brd_board.specs.Board.{BoardState, Happened, reported, happens_on, happens, after}
-use Rattle.brd_board.specs.Batch.{GoesOn}
 use Rattle.brd_frames.specs.Agents as agents
 use Rattle.brd_frames.specs.Agents.{Agent, agent_by, agent_on, context_in, with_context_in, with_agent}
-use Rattle.brd_frames.specs.Apart.{is_steady, Starts, Executes, IsApart}
-use Rattle.brd_frames.specs.Touching.{touches, Agree, with_change, put_at}
+use Rattle.brd_frames.specs.Apart.{is_steady, Calls, starts, Starts, Terminates, Executes}
+use Rattle.brd_frames.specs.Ending.{is_live, is_live_at}
+use Rattle.brd_frames.specs.Touching.{with_change, put_at}
 use Rattle.brd_frames.specs.Going.{Gone, goes, IsNext}
 use Rattle.brd_frames.specs.Commuting.{IsUnlinked, EndsNoLink}
 use Rattle.brd_frames.specs.Lagging.{Sharing, Keeps, IsInvisible, Lags, Path, is_same_agent, without}
-use Rattle.brd_frames.specs.Reducing.{IsQuiet, IsTree, Reaches}
+use Rattle.brd_frames.specs.Reducing.{IsQuiet, PayAll, IsTree, ReductionLaw}
 use Rattle.brd_frames.proofs.CommuteLemmas.{agent-steps}
+use Rattle.brd_frames.proofs.EndLemmas.{lives-on}
 use Rattle.brd_frames.proofs.StartLemmas.{calls-so}
-use Rattle.brd_frames.proofs.LagLemmas.{Leads, leads, leads-kernel, leads-steady, Sees, sees-touches, sees-keeps, sees-invisible, sees-goes, sees-later, deliverable-put, executor-put, same-own, pull, EventKeeps, AllApart, lags-over}
+use Rattle.brd_frames.proofs.LagLemmas.{leads, leads-kernel, leads-steady, Sees, sees-touches, sees-keeps, sees-invisible, sees-goes, sees-later, deliverable-put, executor-put, same-own, pull, AllApart, lags-over}
 
 -- What lags has the same kernel, but for contexts, and the same links.
 
@@ -40,14 +46,19 @@ place-put k (agents.Task id) s cpu (executor.Task at) has = subst (λ n. at < n)
 place-put k (agents.Handler at) s cpu executor.Handler has = subst (λ n. cpu < n) (sym (length-set k.handler_contexts at s)) has
 place-put k (agents.Handler at) s cpu (executor.Task id) has = has
 
+task-put : (k : KernelState) (who : Agent) (s : State) (id : ℕ) → task_at (with_context_in k who s).tasks id ≡ task_at k.tasks id
+task-put k (agents.Task at) s id = refl
+task-put k (agents.Handler at) s id = refl
+
 -- one board has the same of this as another one
-record Like (one two : BoardState) : Type 0 where
-  off : two.kernel.off ≡ one.kernel.off
-  executors : (cpu : ℕ) → executor_on two.kernel cpu ≡ executor_on one.kernel cpu
-  deliverables : (cpu : ℕ) → deliverable two.kernel cpu ≡ deliverable one.kernel cpu
-  steady : (z : Agent) → is_steady two.kernel z ≡ is_steady one.kernel z
-  places : (cpu : ℕ) (x : Executor) → HasPlace one.kernel cpu x → HasPlace two.kernel cpu x
-  links : two.links ≡ one.links
+pub record Like (one two : BoardState) : Type 0 where
+  pub off : two.kernel.off ≡ one.kernel.off
+  pub executors : (cpu : ℕ) → executor_on two.kernel cpu ≡ executor_on one.kernel cpu
+  pub deliverables : (cpu : ℕ) → deliverable two.kernel cpu ≡ deliverable one.kernel cpu
+  pub steady : (z : Agent) → is_steady two.kernel z ≡ is_steady one.kernel z
+  pub tasks : (id : ℕ) → task_at two.kernel.tasks id ≡ task_at one.kernel.tasks id
+  pub places : (cpu : ℕ) (x : Executor) → HasPlace one.kernel cpu x → HasPlace two.kernel cpu x
+  pub links : two.links ≡ one.links
 
 like-same : (b : BoardState) → Like b b
 like-same b = record {
@@ -55,6 +66,7 @@ like-same b = record {
   executors = λ cpu. refl;
   deliverables = λ cpu. refl;
   steady = λ z. refl;
+  tasks = λ id. refl;
   places = λ cpu x has. has;
   links = refl;
 }
@@ -65,11 +77,12 @@ like-then a b c first second = record {
   executors = λ cpu. second.executors cpu ∙ first.executors cpu;
   deliverables = λ cpu. second.deliverables cpu ∙ first.deliverables cpu;
   steady = λ z. second.steady z ∙ first.steady z;
+  tasks = λ id. second.tasks id ∙ first.tasks id;
   places = λ cpu x has. second.places cpu x (first.places cpu x has);
   links = second.links ∙ first.links;
 }
 
-like-invisible : (by : Sharing) (b : BoardState) (who : Agent) (new : BoardState) → IsInvisible by b who new → Like b new
+pub like-invisible : (by : Sharing) (b : BoardState) (who : Agent) (new : BoardState) → IsInvisible by b who new → Like b new
 like-invisible by b who new it =
     let led = leads b who new it.goes in
     let k = leads-kernel b who new led in
@@ -78,6 +91,7 @@ like-invisible by b who new it =
       executors = λ cpu. ap (λ x. executor_on x cpu) k ∙ executor-put b.kernel who led.gone.context cpu;
       deliverables = λ cpu. ap (λ x. deliverable x cpu) k ∙ deliverable-put b.kernel who led.gone.context cpu;
       steady = λ z. leads-steady b who new z led;
+      tasks = λ id. ap (λ (x : KernelState). task_at x.tasks id) k ∙ task-put b.kernel who led.gone.context id;
       places = λ cpu x has. subst (λ kernel. HasPlace kernel cpu x) (sym k) (place-put b.kernel who led.gone.context cpu x has);
       links = ap (λ (x : BoardState). x.links) led.is;
     }
@@ -87,12 +101,12 @@ like-lags by b new [] lags = subst (λ x. Like b x) (sym lags) (like-same b)
 like-lags by b new (who ∷ more) lags =
     like-then b lags.0 new (like-invisible by b who lags.0 lags.1) (like-lags by lags.0 new more lags.3)
 
-like-path : (by : Sharing) (b new : BoardState) (who : Agent) (count : ℕ) → Path by b who count new → Like b new
+pub like-path : (by : Sharing) (b new : BoardState) (who : Agent) (count : ℕ) → Path by b who count new → Like b new
 like-path by b new who zero path = subst (λ x. Like b x) (sym path) (like-same b)
 like-path by b new who (suc count) path =
     like-then b path.0 new (like-invisible by b who path.0 path.1) (like-path by path.0 new who count path.2)
 
-like-next : (one two : BoardState) (cpu : ℕ) (who : Agent) → Like one two → IsNext one cpu who → IsNext two cpu who
+pub like-next : (one two : BoardState) (cpu : ℕ) (who : Agent) → Like one two → IsNext one cpu who → IsNext two cpu who
 like-next one two cpu who like next = record {
   executor = next.executor;
   is = next.is;
@@ -187,9 +201,9 @@ acts-by b cpu None line on is = inr (λ who acts. nobody b cpu who on acts)
 acts-by b cpu (Some who) None on is = inl (who, on, is)
 acts-by b cpu (Some who) (Some line) on is = inr (λ other acts. interrupted b cpu line other is acts)
 
--- a start is somebody's instruction
-quiet-starts : (b : BoardState) (event : Event) (x : Agent) → IsQuiet b event → Starts b event x → ⊥
-quiet-starts b event x quiet it =
+-- a call of ter_tsk is somebody's instruction
+quiet-ends : (b : BoardState) (event : Event) (id : ℕ) → IsQuiet b event → Terminates b event id → ⊥
+quiet-ends b event id quiet it =
     let so = calls-so b it.cpu it.calls.address it.calls.steps in
     quiet (agent_by it.cpu so.who) (record {
       cpu = it.cpu;
@@ -198,34 +212,132 @@ quiet-starts b event x quiet it =
       uninterrupted = so.uninterrupted;
     })
 
--- All that lag are apart from an event that is no instruction of them and starts none of them.
+-- Who is live: nobody starts a task that isn't dormant, but by terminating it.
+
+abbrev Lives : BoardState → Agent → Type 0
+Lives b (agents.Task id) = is_live_at b id ≡ true
+Lives b (agents.Handler cpu) = Unit {0}
+
+abbrev AllLive : BoardState → List Agent → Type 0
+AllLive b [] = Unit {0}
+AllLive b (who ∷ more) = Lives b who × AllLive b more
+
+abbrev EndsNobody : BoardState → Event → Type 0
+EndsNobody b event = (id : ℕ) → Terminates b event id → ⊥
+
+lives-like : (one two : BoardState) (who : Agent) → Like one two → Lives one who → Lives two who
+lives-like one two (agents.Task id) like live = ap is_live (like.tasks id) ∙ live
+lives-like one two (agents.Handler cpu) like live = tt
+
+all-like : (one two : BoardState) (steps : List Agent) → Like one two → AllLive one steps → AllLive two steps
+all-like one two [] like live = tt
+all-like one two (who ∷ more) like live = (lives-like one two who like live.0, all-like one two more like live.1)
+
+live-if : (b : BoardState) (who : Agent) (others : List Agent) (same : Bool) → Lives b who → AllLive b others →
+    AllLive b (if same then others else who ∷ others)
+live-if b who others true live rest = rest
+live-if b who others false live rest = (live, rest)
+
+live-without : (b : BoardState) (who : Agent) (steps : List Agent) → AllLive b steps → AllLive b (without who steps)
+live-without b who [] live = tt
+live-without b who (other ∷ more) live =
+    live-if b other (without who more) (is_same_agent other who) live.0 (live-without b who more live.1)
+
+live-more : (b : BoardState) (steps : List Agent) (who : Agent) → AllLive b steps → Lives b who → AllLive b (steps ++ who ∷ [])
+live-more b [] who live last = (last, tt)
+live-more b (other ∷ more) who live last = (live.0, live-more b more who live.1 last)
+
+awake : (task : Task) (found : Option Task) → found ≡ Some task → is_live found ≡ true → is_dormant task.status ≡ true → ⊥
+awake task None there live dormant = false≢true live
+awake task (Some other) there live dormant =
+    let same : other ≡ task = cc in
+    false≢true (sym (ap (λ (x : Task). not (is_dormant x.status)) same ∙ ap not dormant) ∙ live)
+
+-- a call that starts a task activates a dormant one, or is ter_tsk of it
+starts-how : (c : Call) (by id : ℕ) (task : Task) → starts c by id task ≡ true → (is_dormant task.status ≡ true) ⊎ (c ≡ call.TerTsk id)
+starts-how (call.ActTsk t) by id task is = inl (and_parts (named by t == id) (is_dormant task.status) is).1
+starts-how (call.IactTsk t) by id task is = inl (and_parts (t == id) (is_dormant task.status) is).1
+starts-how (call.MactTsk t to) by id task is = inl (and_parts (named by t == id) (is_dormant task.status) is).1
+starts-how (call.ImactTsk t to) by id task is = inl (and_parts (t == id) (is_dormant task.status) is).1
+starts-how (call.TerTsk t) by id task is =
+    inr (ap (λ n. call.TerTsk n) (eqb-true t id (and_parts (t == id) (is_some task.activation) is).0))
+starts-how _ by id task is = absurd (false≢true is)
+
+terminates-so : (b : BoardState) (event : Event) (who : Agent) (it : Starts b event who) → it.call ≡ call.TerTsk it.id →
+    Terminates b event it.id
+terminates-so b event who it is = record {
+  cpu = it.cpu;
+  steps = it.steps;
+  calls = subst (Calls b it.cpu) is it.calls;
+  serves = sym (ap (λ c. is_ok (serve_by b.kernel it.cpu (caller_on b.kernel it.cpu) c)) is) ∙ it.serves;
+}
+
+never-starts : (b : BoardState) (event : Event) (who : Agent) → Lives b who → EndsNobody b event → Starts b event who → ⊥
+never-starts b event who live never it =
+    elim (starts-how it.call (caller_on b.kernel it.cpu) it.id it.task it.starts) [
+      | inl dormant ↦ awake it.task (task_at b.kernel.tasks it.id) it.there (subst (Lives b) it.is live) dormant
+      | inr terminates ↦ never it.id (terminates-so b event who it terminates)
+    ]
+
+-- who is live stays so, over others' events that terminate nobody
+lives-over : (b : BoardState) (event : Event) (who : Agent) → (Executes b event who → ⊥) → EndsNobody b event → Lives b who →
+    Lives (happens b event).board who
+lives-over b event (agents.Task id) other never live = lives-on b event id other (never id) live
+lives-over b event (agents.Handler cpu) other never live = tt
+
+all-over : (b : BoardState) (event : Event) (steps : List Agent) → ((x : Agent) → Executes b event x → Others x steps) → EndsNobody b event →
+    AllLive b steps → AllLive (happens b event).board steps
+all-over b event [] other never live = tt
+all-over b event (who ∷ more) other never live = (
+  lives-over b event who (λ acts. (other who acts).0 refl) never live.0,
+  all-over b event more (λ x acts. (other x acts).1) never live.1,
+)
+
+-- All that lag and are live are apart from an event that is no instruction of them and terminates nobody.
 all-apart : (by : Sharing) (b new place : BoardState) (event : Event) (steps : List Agent) → Lags by b steps new → Like place b →
-    ((x : Agent) → Executes place event x → Others x steps) → ((x : Agent) → Starts place event x → ⊥) → AllApart place event steps
-all-apart by b new place event [] lags like other never = tt
-all-apart by b new place event (who ∷ more) lags like other never = (
+    ((x : Agent) → Executes place event x → Others x steps) → EndsNobody place event → AllLive place steps → AllApart place event steps
+all-apart by b new place event [] lags like other never live = tt
+all-apart by b new place event (who ∷ more) lags like other never live = (
   record {
     steady = sym (like.steady who) ∙ lags.2;
     elsewhere = λ acts. (other who acts).0 refl;
-    lasting = λ it. never who it;
+    lasting = never-starts place event who live.0 never;
   },
   all-apart by lags.0 new place event more lags.3 (like-then place b lags.0 like (like-invisible by b who lags.0 lags.1))
-      (λ x acts. (other x acts).1) never,
+      (λ x acts. (other x acts).1) never live.1,
 )
 
 -- One event.
 
-by-quiet : (by : Sharing) (In : BoardState → Type 0) (b : BoardState) (event : Event) (it : Reaches by In b) → IsTree by In →
-    IsQuiet it.place event → Reaches by In (happens b event).board
-by-quiet by In b event it tree quiet =
-    let over = lags-over by it.place b event it.lagging it.lags (λ y acts. absurd (quiet y acts))
-    (all-apart by it.place b it.place event it.lagging it.lags (like-same it.place) (λ x acts. absurd (quiet x acts))
-    (λ x starts. quiet-starts it.place event x quiet starts)) in
+-- a place that lags behind a board, the agents that lag being live there
+record Behind (by : Sharing) (In : BoardState → Type 0) (b : BoardState) : Type 0 where
+  place : BoardState
+  lagging : List Agent
+  there : In place
+  lags : Lags by place lagging b
+  live : AllLive place lagging
+
+-- by an event in which none of those executes that lag
+by-others : (by : Sharing) (In : BoardState → Type 0) (b middle : BoardState) (event : Event) (others : List Agent) →
+    Lags by middle others b → AllLive middle others → ((x : Agent) → Executes middle event x → Others x others × Keeps by middle x) →
+    EndsNobody middle event → In (happens middle event).board → Behind by In (happens b event).board
+by-others by In b middle event others lags live acts never there =
+    let over = lags-over by middle b event others lags (λ x it. (acts x it).1)
+    (all-apart by middle b middle event others lags (like-same middle) (λ x it. (acts x it).0) never live) in
     record {
-      place = (happens it.place event).board;
-      lagging = it.lagging;
-      there = tree.quiet it.place event it.there quiet;
+      place = (happens middle event).board;
+      lagging = others;
+      there = there;
       lags = over.0;
+      live = all-over middle event others (λ x it. (acts x it).0) never live;
     }
+
+by-quiet : (by : Sharing) (Left : Type 0) (pays : Left → Event → Left → Type 0) (In : Left → BoardState → Type 0) (left rest : Left)
+    (b : BoardState) (event : Event) (it : Behind by (In left) b) → IsTree by Left pays In → pays left event rest →
+    IsQuiet it.place event → Behind by (In rest) (happens b event).board
+by-quiet by Left pays In left rest b event it tree paid quiet =
+    by-others by (In rest) b it.place event it.lagging it.lags it.live (λ x acts. absurd (quiet x acts))
+    (λ id. quiet-ends it.place event id quiet) (tree.quiet left rest it.place event it.there paid quiet)
 
 same-stored : (gone other : Gone) → Some gone ≡ Some other → gone.stored ≡ other.stored
 same-stored gone other is = let same : gone ≡ other = cc in ap (λ (x : Gone). x.stored) same
@@ -241,10 +353,11 @@ ends-there by b new cpu who next it sees links ends gone address is stored =
     (ends led.gone address led.means (sym (same-stored gone other (sym is ∙ again)) ∙ stored))
 
 by-invisible : (by : Sharing) (In : BoardState → Type 0) (b middle new : BoardState) (cpu count : ℕ) (x : Executor) (others : List Agent)
-    (it : Reaches by In b) → IsNext it.place cpu (agent_by cpu x) → is_steady it.place.kernel (agent_by cpu x) ≡ true →
-    Path by it.place (agent_by cpu x) count middle → Lags by middle others b → Others (agent_by cpu x) others →
-    EndsNoLink middle cpu (agent_by cpu x) → IsInvisible by middle (agent_by cpu x) new → Reaches by In (happens b (Step cpu)).board
-by-invisible by In b middle new cpu count x others it next steady path lags apart ends inv =
+    (it : Behind by In b) → IsNext it.place cpu (agent_by cpu x) → is_steady it.place.kernel (agent_by cpu x) ≡ true →
+    Lives it.place (agent_by cpu x) → Path by it.place (agent_by cpu x) count middle → Lags by middle others b →
+    Others (agent_by cpu x) others → EndsNoLink middle cpu (agent_by cpu x) → IsInvisible by middle (agent_by cpu x) new →
+    Behind by In (happens b (Step cpu)).board
+by-invisible by In b middle new cpu count x others it next steady live path lags apart ends inv =
     let y : Agent = agent_by cpu x in
     let sees : Sees middle b y = sees-lags by middle b y others lags inv.keeps apart in
     let led = leads middle y new inv.goes in
@@ -260,49 +373,68 @@ by-invisible by In b middle new cpu count x others it next steady path lags apar
       there = it.there;
       lags = subst (Lags by it.place (it.lagging ++ y ∷ [])) (sym (ap (λ (done : Happened). done.board) happened))
           (lags-more by it.place b later y it.lagging it.lags here (like.steady y ∙ steady));
+      live = live-more it.place it.lagging y it.live live;
     }
 
 by-visible : (by : Sharing) (In : BoardState → Type 0) (b middle : BoardState) (cpu : ℕ) (y : Agent) (others : List Agent) →
-    Executes middle (Step cpu) y → Lags by middle others b → Others y others → Keeps by middle y → In (happens middle (Step cpu)).board →
-    ((other : Agent) → Starts middle (Step cpu) other → ⊥) → Reaches by In (happens b (Step cpu)).board
-by-visible by In b middle cpu y others acts lags apart keeps there never =
-    let over = lags-over by middle b (Step cpu) others lags
-    (λ z other. subst (Keeps by middle) (one-agent middle (Step cpu) y z acts other) keeps)
-    (all-apart by middle b middle (Step cpu) others lags (like-same middle)
-    (λ z other. subst (λ w. Others w others) (one-agent middle (Step cpu) y z acts other) apart) never) in
-    record { place = (happens middle (Step cpu)).board; lagging = others; there = there; lags = over.0 }
+    Executes middle (Step cpu) y → Lags by middle others b → AllLive middle others → Others y others → Keeps by middle y →
+    EndsNobody middle (Step cpu) → In (happens middle (Step cpu)).board → Behind by In (happens b (Step cpu)).board
+by-visible by In b middle cpu y others acts lags live apart keeps never there =
+    by-others by In b middle (Step cpu) others lags live
+    (λ z other. subst (λ w. Others w others × Keeps by middle w) (one-agent middle (Step cpu) y z acts other) (apart, keeps)) never there
 
-by-acts : (by : Sharing) (In : BoardState → Type 0) (b : BoardState) (cpu : ℕ) (x : Executor) (it : Reaches by In b) → IsTree by In →
+executor-lives : (b : BoardState) (cpu : ℕ) (x : Executor) → ((id : ℕ) → x ≡ executor.Task id → is_live_at b id ≡ true) → Lives b (agent_by cpu x)
+executor-lives b cpu executor.Handler live = tt
+executor-lives b cpu (executor.Task id) live = live id refl
+
+by-acts : (by : Sharing) (Left : Type 0) (pays : Left → Event → Left → Type 0) (In : Left → BoardState → Type 0) (left : Left)
+    (b : BoardState) (cpu : ℕ) (x : Executor) (it : Behind by (In left) b) → IsTree by Left pays In → pays left (Step cpu) left →
     it.place.kernel.off ≡ false → executor_on it.place.kernel cpu ≡ Some x → deliverable it.place.kernel cpu ≡ None →
-    Reaches by In (happens b (Step cpu)).board
-by-acts by In b cpu x it tree off on none =
+    Behind by (In left) (happens b (Step cpu)).board
+by-acts by Left pays In left b cpu x it tree paid off on none =
     let y : Agent = agent_by cpu x in
     let next : IsNext it.place cpu y = record {
       executor = x;
       is = refl;
-      goes_on = record { on = off; executes = on; uninterrupted = none; place = tree.contexts it.place cpu x it.there on };
+      goes_on = record { on = off; executes = on; uninterrupted = none; place = tree.contexts left it.place cpu x it.there paid on };
     } in
     let pulled = pull by it.place b y it.lagging it.lags in
     let apart : Others y (without y it.lagging) = without-others y it.lagging in
-    let block = tree.blocks it.place pulled.middle cpu y pulled.count it.there next pulled.path in
+    let block = tree.blocks left it.place pulled.middle cpu y pulled.count it.there paid next pulled.path in
     let like : Like it.place pulled.middle = like-path by it.place pulled.middle y pulled.count pulled.path in
-    elim block.2 [
+    elim block.1 [
       | inl seen ↦
-          by-invisible by In b pulled.middle seen.0 cpu pulled.count x (without y it.lagging) it next (tree.steady it.place cpu x it.there on)
-          pulled.path pulled.lags apart block.1 seen.1
+          by-invisible by (In left) b pulled.middle seen.0 cpu pulled.count x (without y it.lagging) it next
+          (tree.steady left it.place cpu x it.there paid on)
+          (executor-lives it.place cpu x (λ id is. tree.live left it.place cpu id it.there paid (on ∙ ap Some is)))
+          pulled.path pulled.lags apart seen.2 seen.1
       | inr on_place ↦
-          by-visible by In b pulled.middle cpu y (without y it.lagging)
+          by-visible by (In left) b pulled.middle cpu y (without y it.lagging)
           (record {
             cpu = cpu;
             steps = refl;
             executes = ap (option_map (agent_by cpu)) (like.executors cpu ∙ on);
             uninterrupted = like.deliverables cpu ∙ none;
-          }) pulled.lags apart block.0 on_place.0 on_place.1
+          })
+          pulled.lags (all-like it.place pulled.middle (without y it.lagging) like (live-without it.place y it.lagging it.live))
+          apart block.0 on_place.1 on_place.0
     ]
 
-not-step : (by : Sharing) (In : BoardState → Type 0) (b : BoardState) (event : Event) (it : Reaches by In b) → IsTree by In →
-    ((cpu : ℕ) → event ≡ Step cpu → ⊥) → Reaches by In (happens b event).board
-not-step by In b event it tree never = by-quiet by In b event it tree (λ who acts. never acts.cpu acts.steps)
+off-stays : (b : BoardState) (event : Event) → b.kernel.off ≡ true → (happens b event).board ≡ b
+unfolding happens
+off-stays b event is = ap (λ test. (if test then reported b report.Off else happens_on b event).board) is
+
+by-step : (by : Sharing) (Left : Type 0) (pays : Left → Event → Left → Type 0) (In : Left → BoardState → Type 0) (left : Left)
+    (b : BoardState) (cpu : ℕ) (it : Behind by (In left) b) → IsTree by Left pays In → pays left (Step cpu) left → (off : Bool) →
+    it.place.kernel.off ≡ off → Behind by (In left) (happens b (Step cpu)).board
+by-step by Left pays In left b cpu it tree paid true is =
+    let like : Like it.place b = like-lags by it.place b it.lagging it.lags in
+    subst (Behind by (In left)) (sym (off-stays b (Step cpu) (like.off ∙ is))) it
+by-step by Left pays In left b cpu it tree paid false is =
+    elim (acts-by it.place cpu (executor_on it.place.kernel cpu) (deliverable it.place.kernel cpu) refl refl) [
+      | inl acts ↦ by-acts by Left pays In left b cpu acts.0 it tree paid is acts.1 acts.2
+      | inr quiet ↦ by-quiet by Left pays In left left b (Step cpu) it tree paid quiet
+    ]
 
 tick-step : (cpu : ℕ) → Tick ≡ Step cpu → ⊥
 tick-step cpu is = let wrong : ⊥ = cc in wrong
@@ -310,33 +442,28 @@ tick-step cpu is = let wrong : ⊥ = cc in wrong
 raise-step : (line cpu : ℕ) → Raise line ≡ Step cpu → ⊥
 raise-step line cpu is = let wrong : ⊥ = cc in wrong
 
-by-event : (by : Sharing) (In : BoardState → Type 0) (b : BoardState) (event : Event) (it : Reaches by In b) → IsTree by In →
-    it.place.kernel.off ≡ false → Reaches by In (happens b event).board
-by-event by In b (Step cpu) it tree off =
-    elim (acts-by it.place cpu (executor_on it.place.kernel cpu) (deliverable it.place.kernel cpu) refl refl) [
-      | inl acts ↦ by-acts by In b cpu acts.0 it tree off acts.1 acts.2
-      | inr quiet ↦ by-quiet by In b (Step cpu) it tree quiet
-    ]
-by-event by In b Tick it tree off = not-step by In b Tick it tree tick-step
-by-event by In b (Raise line) it tree off = not-step by In b (Raise line) it tree (raise-step line)
+by-event : (by : Sharing) (Left : Type 0) (pays : Left → Event → Left → Type 0) (In : Left → BoardState → Type 0) (left rest : Left)
+    (b : BoardState) (event : Event) → Behind by (In left) b → IsTree by Left pays In → pays left event rest →
+    Behind by (In rest) (happens b event).board
+by-event by Left pays In left rest b (Step cpu) it tree paid =
+    let same : rest ≡ left = tree.steps left rest cpu paid in
+    subst (λ r. Behind by (In r) (happens b (Step cpu)).board) (sym same)
+    (by-step by Left pays In left b cpu it tree (subst (pays left (Step cpu)) same paid) it.place.kernel.off refl)
+by-event by Left pays In left rest b Tick it tree paid =
+    by-quiet by Left pays In left rest b Tick it tree paid (λ who acts. tick-step acts.cpu acts.steps)
+by-event by Left pays In left rest b (Raise line) it tree paid =
+    by-quiet by Left pays In left rest b (Raise line) it tree paid (λ who acts. raise-step line acts.cpu acts.steps)
 
-off-stays : (b : BoardState) (event : Event) → b.kernel.off ≡ true → (happens b event).board ≡ b
-unfolding happens
-off-stays b event is = ap (λ test. (if test then reported b report.Off else happens_on b event).board) is
+reached : (by : Sharing) (Left : Type 0) (pays : Left → Event → Left → Type 0) (In : Left → BoardState → Type 0) (left rest : Left)
+    (b : BoardState) (events : List Event) → IsTree by Left pays In → Behind by (In left) b → PayAll Left pays left events rest →
+    Behind by (In rest) (after b events)
+reached by Left pays In left rest b [] tree it paid = subst (λ r. Behind by (In r) b) paid it
+reached by Left pays In left rest b (event ∷ events) tree it paid =
+    reached by Left pays In paid.0 rest (happens b event).board events tree
+    (by-event by Left pays In left paid.0 b event it tree paid.1) paid.2
 
-by-off : (by : Sharing) (In : BoardState → Type 0) (b : BoardState) (event : Event) (it : Reaches by In b) → IsTree by In → (off : Bool) →
-    it.place.kernel.off ≡ off → Reaches by In (happens b event).board
-by-off by In b event it tree true is =
-    let like : Like it.place b = like-lags by it.place b it.lagging it.lags in
-    subst (Reaches by In) (sym (off-stays b event (like.off ∙ is))) it
-by-off by In b event it tree false is = by-event by In b event it tree is
-
-reached : (by : Sharing) (In : BoardState → Type 0) (b : BoardState) (events : List Event) → IsTree by In → Reaches by In b →
-    Reaches by In (after b events)
-reached by In b [] tree it = it
-reached by In b (event ∷ events) tree it =
-    reached by In (happens b event).board events tree (by-off by In b event it tree it.place.kernel.off refl)
-
-pub reduced : (by : Sharing) (In : BoardState → Type 0) (b : BoardState) (events : List Event) → IsTree by In → In b →
-    Reaches by In (after b events)
-reduced by In b events tree there = reached by In b events tree (record { place = b; lagging = []; there = there; lags = refl })
+pub reduced : ReductionLaw
+reduced by Left pays In left rest b events tree there paid =
+    let it = reached by Left pays In left rest b events tree
+    (record { place = b; lagging = []; there = there; lags = refl; live = tt }) paid in
+    record { place = it.place; lagging = it.lagging; there = it.there; lags = it.lags }

@@ -1,11 +1,15 @@
 //! What an event reads and writes of a board, and which events may change places: laws of the definitions alone.
 
+ghost use Rattle.brd_board.specs.declared.event.Event.{Event as EventOf};
+ghost use Rattle.brd_board.specs.Board.{BoardState};
 ghost use Rattle.brd_frames.specs.Apart.{FrameLaw, FramesLaw, StartLaw, SteadyLaw};
 ghost use Rattle.brd_frames.specs.Touching.{StoreLaw, FootprintLaw, FootprintsLaw, ClearLaw};
 ghost use Rattle.brd_frames.specs.Going.{ProcessorLaw, GoesLaw};
 ghost use Rattle.brd_frames.specs.Linking.{OthersLaw, OwnLaw, LinkLaw};
 ghost use Rattle.brd_frames.specs.Ending.{EndLaw, ContextLaw};
 ghost use Rattle.brd_frames.specs.Commuting.{LocalsLaw, IndependentLaw, IndependentsLaw, AgentLaw, SwapLaw};
+ghost use Rattle.brd_frames.specs.Lagging.{Sharing};
+ghost use Rattle.brd_frames.specs.Reducing.{Reduces};
 
 /// An event that is apart from an agent neither reads nor writes its context: on a board with another context of the
 /// agent it reports the same and does the same, and leaves that context.
@@ -69,4 +73,19 @@ pub fn independent_events_change_places()
     // the instruction as a step of a processor
     ensures step { AgentLaw }
     ensures steps { SwapLaw }
+{}
+
+/// What is left at places of a tree of boards.
+pub trait Left {
+    /// Which boards are places where so much is left.
+    ghost is_place: { Self → BoardState → Type 0 };
+    /// What an event leaves of it.
+    ghost pays: { Self → EventOf → Self → Type 0 };
+}
+
+/// A reduced search comes behind every schedule: if the places that it goes through are a tree, then behind each board
+/// to which a list of events leads from one of them, however long the list is, as far as what is left pays for it,
+/// there is a place from which that board is reached by invisible instructions of agents that lag.
+pub fn a_reduced_tree_lags_behind_every_board<L: Left>()
+    ensures { (by : Sharing) → Reduces by L L.pays L.is_place }
 {}
