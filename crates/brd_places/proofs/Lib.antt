@@ -1,0 +1,5 @@
+mod PlaceLemmas
+mod KeptLemmas
+mod PathLemmas
+mod StepLemmas
+mod ModelLemmas
