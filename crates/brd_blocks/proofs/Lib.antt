@@ -1,0 +1,9 @@
+pub mod TouchLemmas
+pub mod OwnLemmas
+pub mod GiveLemmas
+pub mod KeepLemmas
+pub mod NextLemmas
+pub mod LinkLemmas
+pub mod CallLemmas
+pub mod StepLemmas
+pub mod StandLemmas

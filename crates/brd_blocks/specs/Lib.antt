@@ -1,0 +1,4 @@
+pub mod Owning
+pub mod Footprint
+pub mod Looking
+pub mod Stepping
