@@ -94,7 +94,7 @@ impl Wanted {
 
     /// Whether a schedule fails that has led to a board, with so much left of the bounds.
     #[tactic(auto, unfolding(crate::specs::Failures::fails_at))]
-    pub(crate) fn fails_at(&self, board: &Board, left: Bounds) -> Result<bool, NoMemory>
+    pub fn fails_at(&self, board: &Board, left: Bounds) -> Result<bool, NoMemory>
         ensures { IfOk result (λ fails. fails ≡ fails_at self.now board.now left) }
     {
         if self.fails_now(board)? {
