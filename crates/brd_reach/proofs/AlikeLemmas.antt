@@ -1,0 +1,298 @@
+-- Boards of which one lags behind the other by invisible instructions fail alike.
+use Rattle.std.proofs.Common.{◌≡◌, ℕ, ◌+◌, ◌-◌, ◌≤◌, ◌<◌, Bool, true, false, not, List, [], ◌∷◌, length, refl, sym, ap, subst, ◌∙◌, arith}
+use Rattle.std.specs.Prelude.{◌%◌, ◌^◌, ◌==◌, ◌&&◌, ◌||◌, if◌then◌else◌, nat_lt, slice_index, slice_index_or, Option, None, Some, is_some}
+use Rattle.std.specs.Option.{option_map}
+use Rattle.std.specs.List.{All, list_any}
+use Rattle.std.proofs.lemmas.Bool.{false≢true}
+use Rattle.std.proofs.lemmas.Bool.Decides.{nat_tests}
+use Rattle.std.proofs.lemmas.List.Elements.{All-head, All-tail}
+use Rattle.brd_base.specs.Space.{base}
+use Rattle.brd_mem.specs.Memory.{Memory, size_of, contains, byte_from, byte_at}
+use Rattle.brd_exec.specs.State.{State}
+use Rattle.brd_exec.specs.declared.outcome.Outcome.{Outcome}
+use Rattle.brd_exec.specs.declared.outcome.Outcome.TheVariants.{Done, Syscall, Exception}
+use Rattle.brd_exec.specs.Step.{ran}
+use Rattle.brd_tasks.specs.declared.task.Task.{Task}
+use Rattle.brd_tasks.specs.Tasks.{shown, task_at, context_at, with_context}
+use Rattle.brd_kernel.specs.declared.processor.Processor.{Processor}
+use Rattle.brd_kernel.specs.declared.processor.Executor.{Executor}
+use Rattle.brd_kernel.specs.Kernel.{KernelState, processor_at, executor_on, context_of, deliverable}
+use Rattle.brd_time.specs.Time.{due_of}
+use Rattle.brd_kernel.specs.Waits.{shown_until, seen_at}
+use Rattle.brd_board.specs.Executing.{executed_by, executed_in}
+use Rattle.brd_board.specs.declared.event.Event.TheVariants.{Step}
+use Rattle.brd_board.specs.declared.event.Report.TheVariants as report
+use Rattle.brd_board.specs.Board.{BoardState, Happened, reported, with_executed, instruction_done, executes_in, accepts_or_executes, stepped_in, happens_on, happens, task_of}
+use Rattle.brd_journal.specs.Still.{did_nothing}
+use Rattle.brd_explore.specs.declared.bounds.Bounds.{Bounds}
+use Rattle.brd_explore.specs.declared.wanted.Failure.{Failure}
+use Rattle.brd_explore.specs.declared.wanted.Failure.TheVariants as failure
+use Rattle.brd_explore.specs.declared.wanted.Wanted.{Wanted}
+use Rattle.brd_explore.specs.Schedules.{does}
+use Rattle.brd_explore.specs.Failures.{some_below, has_fault, nobody_goes, waits, has_due, some_are_due, is_stuck, word_in, word_of, is_value, is_between, begins_with, fails_by_now, fails_at_last, fails_now, lacks, is_at_rest, is_end, is_cut, fails_fairly, goes_fairly, fails_at}
+use Rattle.brd_frames.specs.Agents as agents
+use Rattle.brd_frames.specs.Agents.{Agent, context_in, with_context_in}
+use Rattle.brd_frames.specs.Touching.{touches, stores, changed, put_at}
+use Rattle.brd_frames.specs.Lagging.{Sharing, IsInvisible, Lags}
+use Rattle.brd_frames.proofs.DeedLemmas.{get-bytes}
+use Rattle.brd_frames.proofs.FootprintLemmas.{PutsAt, put-keeps, put-length, stores-touches}
+use Rattle.brd_frames.proofs.LagLemmas.{Leads, leads, leads-kernel}
+use Rattle.brd_reach.specs.Reaching.{IsSharedWord, IsGuarded, Guards}
+
+-- Whether a step does something is a matter of the kernel, but for contexts.
+
+abbrev goes_by : Option ℕ → Option Executor → Bool
+goes_by (Some line) who = true
+goes_by None (Some who) = true
+goes_by None None = false
+
+abbrev goes_in : KernelState → ℕ → Option Processor → Bool
+goes_in k cpu None = false
+goes_in k cpu (Some p) = if p.stopped then false else goes_by (deliverable k cpu) (executor_on k cpu)
+
+abbrev goes_on : KernelState → ℕ → Bool
+goes_on k cpu = if k.off then false else goes_in k cpu (processor_at k cpu)
+
+abbrev did : Happened → Bool
+did done = not (did_nothing done.report)
+
+did-instruction : (b : BoardState) (cpu address : ℕ) (outcome : Outcome) → did (instruction_done b cpu address outcome) ≡ true
+did-instruction b cpu address Done = refl
+did-instruction b cpu address Syscall = refl
+did-instruction b cpu address (Exception code epc bd) = refl
+
+did-execute : (b : BoardState) (cpu : ℕ) (by : Option Executor) →
+    did (executes_in b cpu (executed_in b.kernel cpu b.memory b.links by)) ≡ goes_by None by
+did-execute b cpu None = refl
+did-execute b cpu (Some who) =
+    let s : State = context_of b.kernel cpu who in
+    let left = ran cpu s b.memory b.links in
+    did-instruction (with_executed b (executed_by b.kernel cpu who s.pc left)) cpu s.pc left.outcome
+
+did-accept : (b : BoardState) (cpu : ℕ) (line : Option ℕ) → did (accepts_or_executes b cpu line) ≡ goes_by line (executor_on b.kernel cpu)
+did-accept b cpu (Some line) = refl
+did-accept b cpu None = did-execute b cpu (executor_on b.kernel cpu)
+
+did-unless : (test : Bool) (one other : Happened) (goes : Bool) → did one ≡ false → did other ≡ goes →
+    did (if test then one else other) ≡ (if test then false else goes)
+did-unless true one other goes none is = none
+did-unless false one other goes none is = is
+
+did-step : (b : BoardState) (cpu : ℕ) (found : Option Processor) → did (stepped_in b cpu found) ≡ goes_in b.kernel cpu found
+did-step b cpu None = refl
+did-step b cpu (Some p) =
+    did-unless p.stopped (reported b report.Stopped) (accepts_or_executes b cpu (deliverable b.kernel cpu))
+    (goes_by (deliverable b.kernel cpu) (executor_on b.kernel cpu)) refl (did-accept b cpu (deliverable b.kernel cpu))
+
+does-is : (b : BoardState) (cpu : ℕ) → does b (Step cpu) ≡ goes_on b.kernel cpu
+unfolding does happens
+does-is b cpu =
+    did-unless b.kernel.off (reported b report.Off) (happens_on b (Step cpu)) (goes_in b.kernel cpu (processor_at b.kernel cpu)) refl
+    (did-step b cpu (processor_at b.kernel cpu))
+
+goes-put : (k : KernelState) (who : Agent) (s : State) (cpu : ℕ) → goes_on (with_context_in k who s) cpu ≡ goes_on k cpu
+goes-put k (agents.Task id) s cpu = refl
+goes-put k (agents.Handler at) s cpu = refl
+
+-- So is whether a task waits, and until when.
+
+waits-shown : (due : Option ℕ) (one other : State) (task : Option Task) →
+    waits (option_map (shown_until due) (option_map (shown one) task)) ≡ waits (option_map (shown_until due) (option_map (shown other) task))
+waits-shown due one other None = refl
+waits-shown due one other (Some task) = refl
+
+due-shown : (due : Option ℕ) (one other : State) (task : Option Task) →
+    has_due (option_map (shown_until due) (option_map (shown one) task)) ≡ has_due (option_map (shown_until due) (option_map (shown other) task))
+due-shown due one other None = refl
+due-shown due one other (Some task) = refl
+
+waits-put : (k : KernelState) (who : Agent) (s : State) (id : ℕ) → waits (seen_at (with_context_in k who s) id) ≡ waits (seen_at k id)
+waits-put k (agents.Task at) s id =
+    waits-shown (due_of k.time id) (context_at (with_context k.tasks at s) id) (context_at k.tasks id) (task_at k.tasks id)
+waits-put k (agents.Handler at) s id = refl
+
+due-put : (k : KernelState) (who : Agent) (s : State) (id : ℕ) → has_due (seen_at (with_context_in k who s) id) ≡ has_due (seen_at k id)
+due-put k (agents.Task at) s id =
+    due-shown (due_of k.time id) (context_at (with_context k.tasks at s) id) (context_at k.tasks id) (task_at k.tasks id)
+due-put k (agents.Handler at) s id = refl
+
+off-put : (k : KernelState) (who : Agent) (s : State) → (with_context_in k who s).off ≡ k.off
+off-put k (agents.Task at) s = refl
+off-put k (agents.Handler at) s = refl
+
+console-put : (k : KernelState) (who : Agent) (s : State) → (with_context_in k who s).console ≡ k.console
+console-put k (agents.Task at) s = refl
+console-put k (agents.Handler at) s = refl
+
+-- Bytes to which an instruction doesn't store stay.
+
+byte-by : (inside : Bool) (one two : ℕ) → (inside ≡ true → two ≡ one) → (if inside then Some two else None) ≡ (if inside then Some one else None)
+byte-by true one two same = ap Some (same refl)
+byte-by false one two same = refl
+
+byte-same : (one two : Memory) (address : ℕ) → size_of two ≡ size_of one →
+    (base ≤ address → slice_index two.bytes (address - base) ≡ slice_index one.bytes (address - base)) → byte_at two address ≡ byte_at one address
+byte-same one two address size same =
+    ap (λ n. if contains n address 1 then Some (byte_from two (address - base)) else None) size
+    ∙ byte-by (contains (size_of one) address 1) (byte_from one (address - base)) (byte_from two (address - base)) (λ inside.
+    let from : base ≤ address = grind (arith, nat_tests, inside) in
+    let place : address - base + 0 ≡ address - base = omega arith in
+    get-bytes two (address - base) 1 0 (omega arith) ∙ ap (slice_index two.bytes) place ∙ same from
+    ∙ ap (slice_index one.bytes) (sym place) ∙ sym (get-bytes one (address - base) 1 0 (omega arith)))
+
+byte-put : (memory : Memory) (first : ℕ) (bytes : List ℕ) (stored : ℕ → Bool) (address : ℕ) → PutsAt stored memory first bytes →
+    stored address ≡ false → byte_at (changed memory (put_at (first - base) bytes)) address ≡ byte_at memory address
+byte-put memory first bytes stored address puts none =
+    byte-same memory (changed memory (put_at (first - base) bytes)) address (put-length (first - base) bytes memory.bytes)
+    (λ above. put-keeps (first - base) (address - base) bytes memory.bytes (λ i below is.
+    let there : address ≡ first + i = omega (arith, is, above, puts.from) in
+    false≢true (sym none ∙ puts.at address (omega (arith, there)) (omega (arith, there, below)))))
+
+-- What failures are about is the same on two boards.
+pub record Alike (by : Sharing) (b c : BoardState) : Type 0 where
+  pub off : c.kernel.off ≡ b.kernel.off
+  pub console : c.kernel.console ≡ b.kernel.console
+  pub faults : c.faults ≡ b.faults
+  pub goes : (cpu : ℕ) → does c (Step cpu) ≡ does b (Step cpu)
+  pub waiting : (id : ℕ) → waits (task_of c id) ≡ waits (task_of b id)
+  pub due : (id : ℕ) → has_due (task_of c id) ≡ has_due (task_of b id)
+  pub order : c.memory.order ≡ b.memory.order
+  pub bytes : (address : ℕ) → by.shared address ≡ true → byte_at c.memory address ≡ byte_at b.memory address
+
+alike-own : (by : Sharing) (b : BoardState) → Alike by b b
+alike-own by b = record {
+  off = refl;
+  console = refl;
+  faults = refl;
+  goes = λ cpu. refl;
+  waiting = λ id. refl;
+  due = λ id. refl;
+  order = refl;
+  bytes = λ address shared. refl;
+}
+
+alike-more : (by : Sharing) (a b c : BoardState) → Alike by a b → Alike by b c → Alike by a c
+alike-more by a b c one two = record {
+  off = two.off ∙ one.off;
+  console = two.console ∙ one.console;
+  faults = two.faults ∙ one.faults;
+  goes = λ cpu. two.goes cpu ∙ one.goes cpu;
+  waiting = λ id. two.waiting id ∙ one.waiting id;
+  due = λ id. two.due id ∙ one.due id;
+  order = two.order ∙ one.order;
+  bytes = λ address shared. two.bytes address shared ∙ one.bytes address shared;
+}
+
+false-by : (x : Bool) → (x ≡ true → ⊥) → x ≡ false
+false-by true never = absurd (never refl)
+false-by false never = refl
+
+unstored : (by : Sharing) (b new : BoardState) (who : Agent) (address : ℕ) → IsInvisible by b who new → by.shared address ≡ true →
+    stores (context_in b.kernel who) b.memory address ≡ false
+unstored by b new who address it shared =
+    false-by (stores (context_in b.kernel who) b.memory address) (λ stored.
+    false≢true (sym (it.apart address (stores-touches (context_in b.kernel who) b.memory address stored)) ∙ shared))
+
+-- an invisible instruction leaves all that
+alike-step : (by : Sharing) (b new : BoardState) (who : Agent) → IsInvisible by b who new → Alike by b new
+alike-step by b new who it =
+    let led : Leads b who new = leads b who new it.goes in
+    let kernel : new.kernel ≡ with_context_in b.kernel who led.gone.context = leads-kernel b who new led in
+    record {
+      off = ap (λ (k : KernelState). k.off) kernel ∙ off-put b.kernel who led.gone.context;
+      console = ap (λ (k : KernelState). k.console) kernel ∙ console-put b.kernel who led.gone.context;
+      faults = ap (λ (x : BoardState). x.faults) led.is;
+      goes = λ cpu.
+          does-is new cpu ∙ ap (λ k. goes_on k cpu) kernel ∙ goes-put b.kernel who led.gone.context cpu ∙ sym (does-is b cpu);
+      waiting = λ id. ap (λ k. waits (seen_at k id)) kernel ∙ waits-put b.kernel who led.gone.context id;
+      due = λ id. ap (λ k. has_due (seen_at k id)) kernel ∙ due-put b.kernel who led.gone.context id;
+      order = ap (λ (x : BoardState). x.memory.order) led.is;
+      bytes = λ address shared.
+          ap (λ (x : BoardState). byte_at x.memory address) led.is
+          ∙ byte-put b.memory led.put.first led.put.bytes (stores (context_in b.kernel who) b.memory) address led.put.puts
+          (unstored by b new who address it shared);
+    }
+
+pub alike-lags : (by : Sharing) (b new : BoardState) (steps : List Agent) → Lags by b steps new → Alike by b new
+alike-lags by b new [] lags = subst (Alike by b) (sym lags) (alike-own by b)
+alike-lags by b new (who ∷ more) lags =
+    alike-more by b lags.0 new (alike-step by b lags.0 who lags.1) (alike-lags by lags.0 new more lags.3)
+
+-- So both fail alike.
+
+nobody-alike : (by : Sharing) (b c : BoardState) → Alike by b c → nobody_goes c ≡ nobody_goes b
+nobody-alike by b c it = λ i. not (some_below 9 (λ cpu. it.goes cpu i))
+
+due-alike : (by : Sharing) (b c : BoardState) → Alike by b c → some_are_due c ≡ some_are_due b
+due-alike by b c it = λ i. some_below 256 (λ id. it.due id i)
+
+stuck-alike : (by : Sharing) (b c : BoardState) → Alike by b c → is_stuck c ≡ is_stuck b
+stuck-alike by b c it = λ i.
+    not (it.off i) && some_below 256 (λ id. it.waiting id i) && not (due-alike by b c it i) && nobody-alike by b c it i
+
+rest-alike : (by : Sharing) (b c : BoardState) → Alike by b c → is_at_rest c ≡ is_at_rest b
+unfolding is_at_rest
+rest-alike by b c it = λ i. it.off i || (nobody-alike by b c it i && not (due-alike by b c it i))
+
+word-alike : (by : Sharing) (b c : BoardState) (address : ℕ) → Alike by b c → IsSharedWord by address → word_of c address ≡ word_of b address
+unfolding word_of
+word-alike by b c address it shared = λ i.
+    word_in (it.order i) (it.bytes address shared.first i) (it.bytes ((address + 1) % 2 ^ 32) shared.second i)
+    (it.bytes ((address + 2) % 2 ^ 32) shared.third i) (it.bytes ((address + 3) % 2 ^ 32) shared.fourth i)
+
+now-alike : (by : Sharing) (b c : BoardState) (f : Failure) → Alike by b c → IsGuarded by f → fails_by_now c f ≡ fails_by_now b f
+unfolding fails_by_now
+now-alike by b c failure.Exception it guarded = ap (λ faults. some_below 9 (λ cpu. is_some (slice_index_or faults cpu None))) it.faults
+now-alike by b c failure.Deadlock it guarded = stuck-alike by b c it
+now-alike by b c (failure.Console text) it guarded = ap (λ console. not (begins_with text console)) it.console
+now-alike by b c (failure.Word address value) it guarded = refl
+now-alike by b c (failure.Outside address least most) it guarded =
+    ap (λ word. not (is_between least most word)) (word-alike by b c address it guarded)
+now-alike by b c failure.On it guarded = refl
+
+last-alike : (by : Sharing) (b c : BoardState) (f : Failure) → Alike by b c → IsGuarded by f → fails_at_last c f ≡ fails_at_last b f
+unfolding fails_at_last
+last-alike by b c failure.Exception it guarded = refl
+last-alike by b c failure.Deadlock it guarded = refl
+last-alike by b c (failure.Console text) it guarded = ap (λ console. not (begins_with console text)) it.console
+last-alike by b c (failure.Word address value) it guarded =
+    ap (λ word. not (is_value value word)) (word-alike by b c address it guarded)
+last-alike by b c (failure.Outside address least most) it guarded = refl
+last-alike by b c failure.On it guarded = ap not it.off
+
+any-same : {X : Type 0} (P : X → Type 0) (one two : X → Bool) (xs : List X) → All P xs → ((x : X) → P x → two x ≡ one x) →
+    list_any two xs ≡ list_any one xs
+any-same P one two [] all same = refl
+any-same P one two (x ∷ xs) all same = λ i.
+    same x (All-head P x xs all) i || any-same P one two xs (All-tail P x xs all) same i
+
+no-fair : (wanted : Wanted) (b : BoardState) (left : Bounds) → wanted.rounds ≡ 0 → goes_fairly wanted b left ≡ false
+unfolding goes_fairly
+no-fair wanted b left none = ap (λ n. nat_lt 0 n && left.owed == 0 && is_cut b left) none
+
+-- what fails without a fair end
+abbrev fails_soon : Wanted → BoardState → Bounds → Bool
+fails_soon wanted b left = fails_now wanted b || (is_end b left && lacks wanted b)
+
+or-none : (x y : Bool) → (x || (false && y)) ≡ x
+or-none true y = refl
+or-none false y = refl
+
+fails-soon : (wanted : Wanted) (b : BoardState) (left : Bounds) → wanted.rounds ≡ 0 → fails_at wanted b left ≡ fails_soon wanted b left
+unfolding fails_at
+fails-soon wanted b left none =
+    ap (λ fair. fails_soon wanted b left || (fair && fails_fairly wanted b)) (no-fair wanted b left none)
+    ∙ or-none (fails_soon wanted b left) (fails_fairly wanted b)
+
+soon-alike : (by : Sharing) (wanted : Wanted) (b c : BoardState) (one other : Bounds) → Guards by wanted → Alike by b c →
+    other.owed ≡ one.owed → fails_soon wanted c other ≡ fails_soon wanted b one
+unfolding fails_now is_end
+soon-alike by wanted b c one other guards it owed = λ i.
+    any-same (IsGuarded by) (fails_by_now b) (fails_by_now c) wanted.failures guards (λ f. now-alike by b c f it) i
+    || ((it.off i || (owed i == 0 && rest-alike by b c it i))
+    && any-same (IsGuarded by) (fails_at_last b) (fails_at_last c) wanted.failures guards (λ f. last-alike by b c f it) i)
+
+pub fails-alike : (by : Sharing) (wanted : Wanted) (b c : BoardState) (one other : Bounds) → wanted.rounds ≡ 0 → Guards by wanted →
+    Alike by b c → other.owed ≡ one.owed → fails_at wanted c other ≡ fails_at wanted b one
+fails-alike by wanted b c one other none guards it owed =
+    fails-soon wanted c other none ∙ soon-alike by wanted b c one other guards it owed ∙ sym (fails-soon wanted b one none)

@@ -1,0 +1,103 @@
+-- What failures watch stays shared, and what a search answers.
+use Rattle.std.proofs.Common.{◌≡◌, ℕ, Bool, true, false, List, [], ◌∷◌, length, refl, sym, ap, subst, ◌∙◌, ◌⊎◌, inl, inr, arith}
+use Rattle.std.proofs.lemmas.Bool.{false≢true}
+use Rattle.std.specs.Prelude.{◌<◌, ◌+◌, get_or, ◌%◌, ◌^◌, ◌==◌, ◌&&◌, ◌||◌, not, nat_lt, if◌then◌else◌, slice_get, Some}
+use Rattle.std.specs.List.{All}
+use Rattle.brd_board.specs.declared.event.Event.{Event}
+use Rattle.brd_board.specs.Board.{BoardState, after}
+use Rattle.brd_explore.specs.declared.bounds.Bounds.{Bounds}
+use Rattle.brd_explore.specs.declared.wanted.Failure.{Failure}
+use Rattle.brd_explore.specs.declared.wanted.Failure.TheVariants as failure
+use Rattle.brd_explore.specs.declared.wanted.Wanted.{Wanted}
+use Rattle.brd_explore.specs.Schedules.{start}
+use Rattle.brd_explore.specs.Failures.{fails_at, fails_now, is_end, is_at_rest, lacks, goes_fairly, fails_fairly, is_cut, nobody_goes, some_are_due}
+use Rattle.brd_explore.specs.Searching.{NoneFails}
+use Rattle.brd_explore.specs.Shrinking.{fails_after}
+use Rattle.brd_frames.specs.Lagging.{Sharing}
+use Rattle.brd_link.specs.LinkSet.{IsLinkSet}
+use Rattle.std.proofs.lemmas.List.{get_or_default}
+use Rattle.brd_blocks.specs.declared.owner.Owner.{Owner}
+use Rattle.brd_blocks.specs.Owning.{StaysShared, StayShared, sharing_of}
+use Rattle.brd_blocks.proofs.LinkLemmas.{stays-set}
+use Rattle.brd_places.specs.declared.left.Left.{Left}
+use Rattle.brd_frames.proofs.ReduceLemmas.{reduced}
+use Rattle.brd_places.specs.Places.{Place}
+use Rattle.brd_reach.specs.Rounds.{AreDone, IsMore, IsPlace}
+use Rattle.brd_reach.proofs.ReachLemmas.{none-fails}
+use Rattle.brd_reach.proofs.RoundLemmas.{closed, get-more, IsGoodPlace}
+use Rattle.brd_reach.specs.Reaching.{Guards, IsGuarded, IsSharedWord, bounds_of, fails_there}
+
+word-stays : (old new : Sharing) (address : ℕ) → StaysShared old new → IsSharedWord old address → IsSharedWord new address
+word-stays old new address stays it = record {
+  first = stays address it.first;
+  second = stays ((address + 1) % 2 ^ 32) it.second;
+  third = stays ((address + 2) % 2 ^ 32) it.third;
+  fourth = stays ((address + 3) % 2 ^ 32) it.fourth;
+}
+
+pub guarded-stays : (old new : Sharing) (it : Failure) → StaysShared old new → IsGuarded old it → IsGuarded new it
+guarded-stays old new failure.Exception stays it = tt
+guarded-stays old new failure.Deadlock stays it = tt
+guarded-stays old new (failure.Console text) stays it = tt
+guarded-stays old new (failure.Word address value) stays it = word-stays old new address stays it
+guarded-stays old new (failure.Outside address least most) stays it = word-stays old new address stays it
+guarded-stays old new failure.On stays it = tt
+
+pub all-stay : (old new : Sharing) (failures : List Failure) → StaysShared old new → All (IsGuarded old) failures → All (IsGuarded new) failures
+all-stay old new failures stays all = λ k d less. guarded-stays old new (get_or failures k d) stays (all k d less)
+
+-- A place that fails is a board that does.
+
+last : (now off owed rest lack : Bool) → (now || ((off || owed && rest) && lack) || false) ≡ true → (off ≡ true → rest ≡ true) →
+    (now || (if rest then lack else false)) ≡ true
+last true off owed rest lack fails rests = refl
+last false off owed true true fails rests = refl
+last false true owed true false fails rests = absurd (false≢true fails)
+last false false true true false fails rests = absurd (false≢true fails)
+last false false false true false fails rests = absurd (false≢true fails)
+last false true owed false lack fails rests = absurd (false≢true (rests refl))
+last false false true false lack fails rests = absurd (false≢true fails)
+last false false false false lack fails rests = absurd (false≢true fails)
+
+off-rests : (off quiet : Bool) → off ≡ true → (off || quiet) ≡ true
+off-rests true quiet is = refl
+off-rests false quiet is = absurd (false≢true is)
+
+-- with no fair end, a board that fails where so much is left fails as the last one of a list
+fails-last : (wanted : Wanted) (b : BoardState) (left : Bounds) → wanted.rounds ≡ 0 → fails_at wanted b left ≡ true → fails_after wanted b ≡ true
+unfolding fails_at is_end goes_fairly fails_after is_at_rest
+fails-last wanted b left none fails =
+    subst (λ n. (fails_now wanted b || (if is_at_rest b then lacks wanted b else (nat_lt 0 n && fails_fairly wanted b))) ≡ true) (sym none)
+    (last (fails_now wanted b) b.kernel.off (left.owed == 0) (is_at_rest b) (lacks wanted b)
+    (subst (λ n. (fails_now wanted b || (is_end b left && lacks wanted b) || (nat_lt 0 n && left.owed == 0 && is_cut b left && fails_fairly wanted b)) ≡ true) none fails)
+    (λ off. off-rests b.kernel.off (nobody_goes b && not (some_are_due b)) off))
+
+-- What a search answers.
+
+pub holds-so : (by : Sharing) (among : List Event) (wanted : Wanted) (places : List Place) (left : Left) (b : BoardState) → wanted.rounds ≡ 0 →
+    Guards by wanted → IsMore (record { left = left; board = b } ∷ []) places → AreDone by among wanted places (length places) →
+    IsLinkSet b.links → (events preemptions : ℕ) → NoneFails wanted among (start b (bounds_of left events preemptions))
+holds-so by among wanted places left b none guards more done set events preemptions =
+    none-fails reduced by among wanted (IsGoodPlace places) left b none (closed stays-set by among wanted places guards done)
+    ((0, get-more (record { left = left; board = b } ∷ []) places 0 (record { left = left; board = b }) more refl), set) events preemptions
+
+pub fails-so : (wanted : Wanted) (place : Place) (b : BoardState) → wanted.rounds ≡ 0 → fails_there wanted place.board place.left ≡ true →
+    b ≡ place.board → fails_after wanted b ≡ true
+fails-so wanted place b none fails is =
+    subst (λ x. fails_after wanted x ≡ true) (sym is) (fails-last wanted place.board (bounds_of place.left 0 0) none fails)
+
+-- What failures watch, one after the other.
+
+less-or-same : (n m : ℕ) → n < m + 1 → (n < m) ⊎ (n ≡ m)
+less-or-same n m less = grind (arith, less)
+
+pub guard-next : (old new : List Owner) (failures : List Failure) (i : ℕ) (it : Failure) →
+    ((k : ℕ) (d : Failure) → k < i → IsGuarded (sharing_of old) (get_or failures k d)) → StayShared old new → IsGuarded (sharing_of new) it →
+    it ≡ get_or failures i it → i < length failures → (k : ℕ) (d : Failure) → k < i + 1 → IsGuarded (sharing_of new) (get_or failures k d)
+guard-next old new failures i it before stays here is within k d less =
+    elim (less-or-same k i less) [
+      | inl below ↦ guarded-stays (sharing_of old) (sharing_of new) (get_or failures k d) stays (before k d below)
+      | inr same ↦
+          subst (λ n. IsGuarded (sharing_of new) (get_or failures n d)) (sym same)
+          (subst (IsGuarded (sharing_of new)) (is ∙ get_or_default failures i it d within) here)
+    ]

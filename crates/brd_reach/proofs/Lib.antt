@@ -1,0 +1,6 @@
+pub mod WayLemmas
+pub mod AlikeLemmas
+pub mod ReachLemmas
+pub mod WalkLemmas
+pub mod RoundLemmas
+pub mod AnswerLemmas

@@ -1,0 +1,4 @@
+pub mod Reaching
+pub mod Rounds
+pub use Rattle.brd_explore.specs.Searching
+pub use Rattle.brd_frames.specs.Reducing

@@ -1,0 +1,205 @@
+//! Visits to places: each event that may come there is tried.
+
+ghost use Rattle.std.specs.Prelude.{◌≡◌, IfOk, OnOk, List as ListOf, Some, replicate, slice_get};
+ghost use Rattle.brd_board.specs.declared.event.Event.{Event as EventOf};
+ghost use Rattle.brd_board.specs.declared.event.Event.TheVariants.{Step};
+ghost use Rattle.brd_board.specs.Board.{after};
+ghost use Rattle.brd_blocks.specs.Owning.{sharing_of};
+ghost use Rattle.brd_places.specs.Places.{Place};
+ghost use Rattle.brd_reach.specs.Reaching.{bounds_of};
+ghost use Rattle.brd_reach.specs.Rounds.{IsAt, IsMore, IsPaid, IsPlace, TriedSo, VisitedSo, paid};
+
+use crate::block::{Block, go};
+use crate::unknown::Unknown;
+use brd_base::NoMemory;
+use brd_blocks::Sharing;
+use brd_board::{Board, Event};
+use brd_explore::{Bounds, Wanted};
+use brd_places::{Left, Places, mix};
+
+/// What was tried at a place came to.
+#[derive(Clone, Copy, PartialEq, Eq)]
+pub(crate) enum Tried {
+    /// It was gone through.
+    Done,
+    /// The place fails.
+    Fails,
+    /// After so many steps of a processor there is one that doesn't keep to who may touch what.
+    Strays(u8, u32),
+    /// It isn't known.
+    Unknown(Unknown),
+}
+
+/// Visits the place of an index: looks whether it fails, and tries all events that may come there. `words` are the
+/// addresses of the words by whose values places are told from each other at first sight.
+pub(crate) fn visit(
+    places: &mut Places,
+    at: usize,
+    sharing: &Sharing,
+    words: &[u32],
+    among: &[Event],
+    wanted: &Wanted,
+) -> Result<Tried, NoMemory>
+    ensures more { (place : Place) → slice_get places.old at ≡ Some place → IsMore places.old places.new }
+    ensures so { (place : Place) → slice_get places.old at ≡ Some place →
+        IfOk result (VisitedSo (sharing_of sharing.now) among.now wanted.now places.new place) }
+{
+    let board = places.board(at)?;
+    let left = places.left(at);
+    if wanted.fails_at(&board, bounds_of(left))? {
+        return Ok(Tried::Fails);
+    }
+    for event in among {
+        match try_event(places, at, &board, left, sharing, words, *event)? {
+            Tried::Done => {}
+            Tried::Fails => return Ok(Tried::Fails),
+            Tried::Strays(cpu, count) => return Ok(Tried::Strays(cpu, count)),
+            Tried::Unknown(why) => return Ok(Tried::Unknown(why)),
+        }
+    }
+    Ok(Tried::Done)
+}
+
+/// The bounds with so much left, and nothing else.
+fn bounds_of(left: Left) -> Bounds
+    ensures { result ≡ bounds_of left 0 0 }
+{
+    Bounds {
+        events: 0,
+        preemptions: 0,
+        ticks: left.ticks,
+        raises: left.raises,
+        owed: left.owed,
+    }
+}
+
+/// Tries an event at the place of an index: this board, where so much is left.
+fn try_event(
+    places: &mut Places,
+    at: usize,
+    board: &Board,
+    left: Left,
+    sharing: &Sharing,
+    words: &[u32],
+    event: Event,
+) -> Result<Tried, NoMemory>
+    ensures more { IsAt places.old at left board.now → IsMore places.old places.new }
+    ensures so { (among : ListOf EventOf) → IsAt places.old at left board.now →
+        IfOk result (TriedSo (sharing_of sharing.now) among places.new left board.now event) }
+{
+    match event {
+        Event::Step(cpu) => try_step(places, at, board, left, sharing, words, cpu),
+        Event::Tick => try_other(places, at, board, left, words, event),
+        Event::Raise(_) => try_other(places, at, board, left, words, event),
+    }
+}
+
+/// Tries a step of a processor.
+fn try_step(
+    places: &mut Places,
+    at: usize,
+    board: &Board,
+    left: Left,
+    sharing: &Sharing,
+    words: &[u32],
+    cpu: u8,
+) -> Result<Tried, NoMemory>
+    ensures more { IsAt places.old at left board.now → IsMore places.old places.new }
+    ensures so { (among : ListOf EventOf) → IsAt places.old at left board.now →
+        IfOk result (TriedSo (sharing_of sharing.now) among places.new left board.now (Step cpu)) }
+{
+    if cpu == 0 || cpu > 8 {
+        return Ok(Tried::Unknown(Unknown::Waits));
+    }
+    let mut last = board.try_copy()?;
+    match go(sharing, &mut last, cpu) {
+        Block::Stays => Ok(Tried::Done),
+        Block::Leads(count) => {
+            note(places, at, words, Event::Step(cpu), count, &last, left)?;
+            Ok(Tried::Done)
+        }
+        Block::Strays(count) => Ok(Tried::Strays(cpu, count)),
+        Block::Unknown(why) => Ok(Tried::Unknown(why)),
+    }
+}
+
+/// Tries a tick, or a raise.
+fn try_other(
+    places: &mut Places,
+    at: usize,
+    board: &Board,
+    left: Left,
+    words: &[u32],
+    event: Event,
+) -> Result<Tried, NoMemory>
+    ensures more { IsAt places.old at left board.now → IsMore places.old places.new }
+    ensures so { IsAt places.old at left board.now → IfOk result (IsPaid places.new left board.now event) }
+{
+    let Some(rest) = paid(left, event) else {
+        return Ok(Tried::Done);
+    };
+    let mut last = board.try_copy()?;
+    let _ = last.event_apart(event);
+    note(places, at, words, event, 1, &last, rest)?;
+    Ok(Tried::Done)
+}
+
+/// What is left after an event, if enough is.
+fn paid(left: Left, event: Event) -> Option<Left>
+    ensures { result ≡ paid left event }
+{
+    match event {
+        Event::Step(_) => Some(left),
+        Event::Tick => {
+            if left.ticks == 0 {
+                return None;
+            }
+            Some(Left {
+                ticks: left.ticks - 1,
+                ..left
+            })
+        }
+        Event::Raise(_) => {
+            if left.raises == 0 {
+                return None;
+            }
+            Some(Left {
+                raises: left.raises - 1,
+                owed: left.owed.saturating_sub(1),
+                ..left
+            })
+        }
+    }
+}
+
+/// Adds a place, unless it is there: the board to which one event n times leads from the place of an index.
+fn note(
+    places: &mut Places,
+    at: usize,
+    words: &[u32],
+    event: Event,
+    count: u32,
+    board: &Board,
+    left: Left,
+) -> Result<(), NoMemory>
+    ensures more { (place : Place) → slice_get places.old at ≡ Some place → IsMore places.old places.new }
+    ensures there { (place : Place) → slice_get places.old at ≡ Some place →
+        board.now ≡ after place.board (replicate count event) → OnOk result (IsPlace places.new left board.now) }
+{
+    let mark = places.mark_of(board, left, memory_of(board, words));
+    if places.find(board, left, mark)?.is_some() {
+        return Ok(());
+    }
+    places.add(at, event, count, left, mark)
+}
+
+/// A number for the memory of a board, by the words at some addresses.
+fn memory_of(board: &Board, words: &[u32]) -> u64 {
+    let mut number = 0;
+    for address in words {
+        if let Some(word) = board.aligned_word(*address) {
+            number ^= mix(*address, word);
+        }
+    }
+    number
+}
