@@ -1,6 +1,6 @@
 -- Which search options ask for, and what may be wrong with them.
 use Rattle.std.specs.Prelude.{◌≡◌, ℕ, zero, suc, ◌+◌, ◌-◌, ◌<◌, ◌≤◌, nat_lt, ◌==◌, Bool, true, false, not}
-use Rattle.std.specs.Prelude.{◌||◌, if◌then◌else◌, List, [], ◌∷◌, ◌++◌, length, Option, None, Some, is_some}
+use Rattle.std.specs.Prelude.{◌&&◌, ◌||◌, if◌then◌else◌, List, [], ◌∷◌, ◌++◌, length, Option, None, Some, is_some}
 use Rattle.std.specs.Prelude.{option_map, Result, Ok, Err}
 use Rattle.std.specs.Borrow.{Bor}
 use Rattle.std.specs.List.{list_any, position_or_len, before_first, after_first}
@@ -22,7 +22,7 @@ use Rattle.brd_explore.specs.declared.wanted.Wanted.{Wanted}
 use Rattle.brd_search.specs.Escapes.{bytes_of}
 use Rattle.brd_search.specs.declared.fault.SearchFault.{SearchFault}
 use Rattle.brd_search.specs.declared.fault.SearchFault.TheVariants.{NoMemory, Events, Fair, Remember, Lines, NoLines}
-use Rattle.brd_search.specs.declared.fault.SearchFault.TheVariants.{Twice, NoHandler}
+use Rattle.brd_search.specs.declared.fault.SearchFault.TheVariants.{Twice, NoHandler, Places}
 use Rattle.brd_search.specs.declared.fault.SearchFault.TheVariants.{Word, NoSymbol, Console, Shard, Raises as BadRaises}
 use Rattle.brd_search.specs.declared.raises.Raises.{Raises}
 use Rattle.brd_search.specs.declared.options.Looks.{Looks}
@@ -271,6 +271,16 @@ bounds_of options said = record {
   owed = said.owed;
 }
 
+-- options ask for nothing that a search doesn't know for which events and preemptions have no bound
+abbrev pub is_plain : SearchOptions → Bool
+is_plain options =
+    options.sizes.fair == 0 && options.remember == 0 && not options.shortest
+    && not (is_some (text_of options.shard))
+
+-- they don't ask for such a search, or for nothing else
+abbrev pub places_fit : SearchOptions → Bool
+places_fit options = options.places == 0 || is_plain options
+
 -- A plan is what options ask for, on a board of so many processors whose image has these symbols. Each line that may be
 -- raised has a handler there, and is named once.
 pub record IsPlan (options : SearchOptions) (b : BoardState) (cpus : ℕ) (symbols : List Symbol) (plan : Plan) : Type 0
@@ -287,6 +297,8 @@ pub record IsPlan (options : SearchOptions) (b : BoardState) (cpus : ℕ) (symbo
     pub is_one : plan.shard.number < plan.shard.of
     pub shortest : plan.shortest ≡ options.shortest
     pub remember : plan.remember ≡ options.remember
+    pub places : plan.places ≡ options.places
+    pub plain : places_fit options ≡ true
 
 -- The lines of `--lines` aren't those of the raises, for this reason.
 pub record HaveNoLines (options : SearchOptions) (fault : SearchFault) : Type 0 where
@@ -311,9 +323,15 @@ KeepsFromPlanning options b cpus symbols NoLines = HaveNoLines options NoLines
 KeepsFromPlanning options b cpus symbols Twice = IsUnfit options cpus is_twice
 KeepsFromPlanning options b cpus symbols NoHandler = IsUnfit options cpus (list_any (is_idle b))
 KeepsFromPlanning options b cpus symbols Shard = shard_of (text_of options.shard) ≡ None
+KeepsFromPlanning options b cpus symbols Places = places_fit options ≡ false
 KeepsFromPlanning options b cpus symbols fault = KeepsFromWanting options.looks options.sizes.fair symbols fault
 
 -- Only private contracts name the next ones.
+
+-- options ask for a search without bounds, and for more
+abbrev pub DontFit : SearchOptions → SearchFault → Type 0
+DontFit options Places = places_fit options ≡ false
+DontFit options _ = ⊥
 
 -- the bounds that options give, whose numbers are within limits
 pub record IsSized (options : SearchOptions) (said : Raises) (bounds : Bounds) : Type 0 where

@@ -52,6 +52,21 @@ pub enum SearchFault {
     /// A journal would be written over an input.
     #[error("--out names the object file or the configuration")]
     OverInput,
+    /// A search without bounds is to do what it doesn't know.
+    #[error("--places goes with none of --fair, --remember, --shard and --shortest")]
+    Places,
+    /// A search without bounds has come to no answer: there are more places.
+    #[error("not known: there are more than --places places")]
+    MorePlaces,
+    /// There is a block without end, or nearly so.
+    #[error("not known: a processor executes 10,000,000 instructions in a row that no other can see")]
+    LongBlock,
+    /// A task is ended by another one.
+    #[error("not known: a task ends another one by ter_tsk; a search within bounds knows that call")]
+    Terminates,
+    /// Something that is not to be expected.
+    #[error("not known: it isn't learned who uses which memory")]
+    Unlearned,
     /// A shard isn't one of its number.
     #[error("--shard is K/M, shard K of M, with K from 1 to M")]
     Shard,

@@ -46,4 +46,6 @@ pub struct SearchOptions<'a> {
     pub shard: Option<&'a str>,
     /// How many MiB of states the search remembers at most.
     pub remember: u32,
+    /// Through how many places a search goes at most for which events and preemptions have no bound; 0: they have.
+    pub places: u32,
 }

@@ -1,7 +1,9 @@
 //! What is searched, and for what.
 
 ghost use Rattle.std.specs.Prelude.{MatchResult};
+ghost use Rattle.std.specs.Prelude.{◌≡◌, true};
 ghost use Rattle.brd_search.specs.Plans.{IsPlan, KeepsFromPlanning, IsSized, IsOfSizes, IsShard, IsNoShard, text_of};
+ghost use Rattle.brd_search.specs.Plans.{DontFit, is_plain, places_fit};
 
 use crate::coming::{check_lines, may_come};
 use crate::fault::SearchFault;
@@ -38,6 +40,8 @@ pub struct Plan {
     pub shortest: bool,
     /// How many MiB of places are remembered at most.
     pub remember: u32,
+    /// Through how many places a search goes at most for which events and preemptions have no bound; 0: they have.
+    pub places: u32,
 }
 
 /// Written out, so that a function that lets one go is proved with a call.
@@ -50,6 +54,7 @@ impl Drop for Plan {
             shard: _,
             shortest: _,
             remember: _,
+            places: _,
         } = self;
     }
 }
@@ -69,6 +74,7 @@ pub fn plan_of(
     ensures { MatchResult result (IsPlan options.now board.now cpus symbols.now)
         (KeepsFromPlanning options.now board.now cpus symbols.now) }
 {
+    check_places(options)?;
     let raises = raises_of(options.raises)?;
     let bounds = bounds_of(options, raises)?;
     let shard = shard_of(options.shard)?;
@@ -82,7 +88,25 @@ pub fn plan_of(
         shard,
         shortest: options.shortest,
         remember: options.remember,
+        places: options.places,
     })
+}
+
+/// A search without bounds goes through the whole, and to no fair end; it finds what it finds, and remembers all places.
+fn check_places(options: &SearchOptions<'_>) -> Result<(), SearchFault>
+    ensures { MatchResult result (λ _. places_fit options.now ≡ true) (DontFit options.now) }
+{
+    if options.places == 0 || is_plain(options) {
+        return Ok(());
+    }
+    Err(SearchFault::Places)
+}
+
+/// Whether options ask for nothing that a search without bounds doesn't know.
+fn is_plain(options: &SearchOptions<'_>) -> bool
+    ensures { result ≡ is_plain options.now }
+{
+    options.sizes.fair == 0 && options.remember == 0 && !options.shortest && options.shard.is_none()
 }
 
 /// The bounds that options give, with these raises. They ask neither for too many events nor for too much that is

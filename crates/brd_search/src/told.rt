@@ -42,6 +42,11 @@ fn put_bounds(alloc: Global, out: &mut Vec<u8>, bounds: Bounds) -> Result<(), No
     put(out, ", ")?;
     put_count(alloc, out, u64::from(bounds.preemptions), "preemption")?;
     put(out, ", ")?;
+    put_extras(alloc, out, bounds)
+}
+
+/// Puts how many ticks and raises bounds leave at the end, and how many raises come before an end.
+fn put_extras(alloc: Global, out: &mut Vec<u8>, bounds: Bounds) -> Result<(), NoMemory> {
     put_count(alloc, out, u64::from(bounds.ticks), "tick")?;
     put(out, " and ")?;
     put_count(alloc, out, u64::from(bounds.raises), "raise")?;
@@ -73,6 +78,27 @@ pub fn put_none(
     put(out, "\n")?;
     put_looked_for(alloc, symbols, &plan.wanted, out)?;
     put_ends(alloc, plan, counts, out)
+}
+
+/// Puts at the end that no schedule fails, however many events and preemptions it has, as what follows "none "; and
+/// below that what was looked for, and through how many places the search went.
+pub fn put_all_hold(
+    alloc: Global,
+    symbols: &[Symbol],
+    plan: &Plan,
+    places: u64,
+    out: &mut Vec<u8>,
+) -> Result<(), NoMemory> {
+    put(
+        out,
+        "fails, however many events and preemptions it has: at most ",
+    )?;
+    put_extras(alloc, out, plan.bounds)?;
+    put(out, "\n")?;
+    put_looked_for(alloc, symbols, &plan.wanted, out)?;
+    put_count(alloc, out, places, "place")?;
+    put(out, if places == 1 { " was" } else { " were" })?;
+    put(out, " gone through\n")
 }
 
 /// Puts at the end a line of what is looked for.
