@@ -121,7 +121,7 @@ checks =
 abbrev pub searching : List Rule
 searching =
     flag (codes "shortest") ∷ option (codes "SHARD") (codes "shard") ∷ count (codes "MIB") (codes "remember")
-    ∷ option (codes "OUT") (codes "out") ∷ []
+    ∷ count (codes "PLACES") (codes "places") ∷ option (codes "OUT") (codes "out") ∷ []
 
 -- `explore` and `shrink` take their options before, between or after their files
 abbrev pub explore : App

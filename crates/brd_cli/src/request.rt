@@ -253,6 +253,7 @@ fn search_options_of<'a>(arguments: &ArgMatches<'a>) -> SearchOptions<'a>
         shortest: flag_of(arguments, "shortest"),
         shard: text_of(arguments, "SHARD"),
         remember: number_or(arguments, "MIB", 0),
+        places: number_or(arguments, "PLACES", 0),
     }
 }
 

@@ -121,6 +121,7 @@ All schedules within the bounds are searched: those without preemptions first, t
 and so on. A schedule is a list of events. A preemption is a step that leaves another processor that
 could go on. Unless it is said what fails, an exception or a deadlock does. If a schedule fails, it
 is told, OUT gets its journal, and the status is 5; if none does, that is told, and it is 0.
+With --places there is no bound on events and preemptions: all schedules are searched.
 
 Example, from the top of the repository:
   board asm examples/lost_update/racy.s build/racy.elf
@@ -540,6 +541,12 @@ fn with_search<'a>(alloc: Global, command: Command<'a>) -> Result<Command<'a>, N
             "MIB",
             "remember",
             "How many MiB of states are remembered, 0 to 4,096; 0 if left out",
+        ))?
+        .arg(count(
+            alloc,
+            "PLACES",
+            "places",
+            "Sets no bound on events and preemptions; goes through so many places at most",
         ))?
         .arg(option(
             alloc,

@@ -1,5 +1,5 @@
 -- A search of what was read.
-use Rattle.std.proofs.Common.{◌≡◌, ℕ, ◌≤◌, true, false, List, refl, inl, inr, subst}
+use Rattle.std.proofs.Common.{◌≡◌, ℕ, ◌<◌, ◌≤◌, true, false, List, refl, sym, inl, inr, subst, arith}
 use Rattle.std.specs.Prelude.{Option, Some, None, IfSome, Result, Ok, Err, MatchResult, option_map}
 use Rattle.std.specs.Io.KnownBytes.{Appends, Keeps}
 use Rattle.std.specs.declared.io.Error.{Error}
@@ -16,7 +16,11 @@ use Rattle.brd_search.specs.Shown.{shown}
 use Rattle.brd_search.specs.declared.options.SearchOptions.{SearchOptions}
 use Rattle.brd_search.specs.declared.plan.Plan.{Plan}
 use Rattle.brd_threads.specs.Processors.{processors_of}
-use Rattle.brd_running.specs.ExploreCommand.{Explores, IsTold, KeepsFromSearching, RefusesExploring, Tells}
+use Rattle.brd_board.specs.Board.{BoardState}
+use Rattle.brd_places.specs.declared.left.Left.{Left}
+use Rattle.brd_reach.specs.Reaching.{ReachedSo}
+use Rattle.brd_reach.specs.declared.searching.Reached.TheVariants as reached
+use Rattle.brd_running.specs.ExploreCommand.{Explores, IsReached, IsTold, IsUntoldOfAll, KeepsFromSearching, RefusesExploring, Tells, left_by}
 use Rattle.brd_running.specs.Saving.{IsOfJournal}
 use Rattle.brd_running.specs.declared.explore_command.Told.{Told}
 use Rattle.brd_running.proofs.SavingLemmas.{of_search}
@@ -70,8 +74,8 @@ module _ (options : SearchOptions) where
 
 -- what is told of a schedule that was found, or why it isn't
 pub told_found : (options : SearchOptions) (loaded : Loaded) (plan : Plan) (bounds : Bounds) (events : List Event)
-    (result : Result Told CommandFault) → IsPlan options loaded.board (processors_of loaded.board) loaded.image.symbols plan
-    → processors_of loaded.board ≤ 8 → Answers plan loaded.board bounds (Some events)
+    (result : Result Told CommandFault) → (0 < plan.places → ⊥)
+    → IsPlan options loaded.board (processors_of loaded.board) loaded.image.symbols plan → processors_of loaded.board ≤ 8 → Answers plan loaded.board bounds (Some events)
     → (plan.shortest ≡ false → IsFewest plan loaded.board bounds (Some events))
     → (plan.shortest ≡ true → IsShortest plan loaded.board bounds (Some events))
     → MatchResult result
@@ -80,15 +84,57 @@ pub told_found : (options : SearchOptions) (loaded : Loaded) (plan : Plan) (boun
     → MatchResult result
     (λ told. IsTold options loaded told.text.items (option_map (λ text. text.items) told.journal))
     (KeepsFromSearching options loaded)
-told_found options loaded plan bounds events (Ok told) planned few answers fewest short tells = record {
+told_found options loaded plan bounds events (Ok told) none planned few answers fewest short tells = record {
   plan = plan;
   planned = planned;
-  bounds = bounds;
-  schedule = Some events;
-  answers = answers;
-  fewest = fewest;
-  short = short;
+  within = λ zero. record {
+    bounds = bounds;
+    schedule = Some events;
+    answers = answers;
+    fewest = fewest;
+    short = short;
+    tells = tells;
+  };
+  all = λ some. absurd (none some);
+}
+told_found options loaded plan bounds events (Err fault) none planned few answers fewest short keeps =
+    of_search options loaded plan bounds events fault planned few answers keeps
+
+-- A search without bounds.
+
+untold-all : (options : SearchOptions) (loaded : Loaded) (fault : CommandFault) → 0 < options.places → IsUntoldOfAll fault →
+    KeepsFromSearching options loaded fault
+untold-all options loaded fault some keeps =
+    elim keeps [
+      | inl none ↦ subst (KeepsFromSearching options loaded) (sym none) tt
+      | inr (inl long) ↦ subst (KeepsFromSearching options loaded) (sym long) some
+      | inr (inr unknown) ↦ subst (KeepsFromSearching options loaded) (sym unknown.1) (inr (some, unknown.2))
+    ]
+
+pub told-all : (options : SearchOptions) (loaded : Loaded) (plan : Plan) (result : Result Told CommandFault) → 0 < plan.places →
+    IsPlan options loaded.board (processors_of loaded.board) loaded.image.symbols plan →
+    MatchResult result (λ told. IsReached plan loaded.board told.text.items (option_map (λ text. text.items) told.journal)) IsUntoldOfAll →
+    MatchResult result (λ told. IsTold options loaded told.text.items (option_map (λ text. text.items) told.journal))
+    (KeepsFromSearching options loaded)
+told-all options loaded plan (Ok told) some planned it = record {
+  plan = plan;
+  planned = planned;
+  within = λ zero. absurd (omega (arith, some, zero));
+  all = λ more. it;
+}
+told-all options loaded plan (Err fault) some planned keeps =
+    untold-all options loaded fault (subst (λ (n : ℕ). 0 < n) planned.places some) keeps
+
+-- what is told of events that lead to a board that fails
+pub told-reached : (plan : Plan) (b : BoardState) (left : Left) (events : List Event) (result : Result Told CommandFault) →
+    left ≡ left_by plan.bounds → ReachedSo b left plan.among plan.wanted (reached.Fails events) →
+    MatchResult result (λ told. Tells plan b (Some events) told.text.items (option_map (λ text. text.items) told.journal))
+    (IsOfJournal (shown plan.wanted b events)) →
+    MatchResult result (λ told. IsReached plan b told.text.items (option_map (λ text. text.items) told.journal)) IsUntoldOfAll
+told-reached plan b left events (Ok told) same so tells = record {
+  answer = reached.Fails events;
+  so = so;
   tells = tells;
 }
-told_found options loaded plan bounds events (Err fault) planned few answers fewest short keeps =
-    of_search options loaded plan bounds events fault planned few answers keeps
+told-reached plan b left events (Err fault) same so (inl none) = inl none
+told-reached plan b left events (Err fault) same so (inr long) = inr (inl long.0)

@@ -2,6 +2,7 @@ pub mod AnswerLemmas
 pub mod DebugLineLemmas
 pub mod ExploreLemmas
 pub mod LineLemmas
+pub mod LoadedLemmas
 pub mod RaceLemmas
 pub mod RunLemmas
 pub mod SavingLemmas

@@ -1,5 +1,6 @@
 -- The command `explore`: what it writes for what it reads, which journal it saves, and how it ends.
-use Rattle.std.specs.Prelude.{◌≡◌, ◌⊎◌, ℕ, true, false, List, ◌++◌, codes, Option, None, Some, IfSome, Result, Ok, Err}
+use Rattle.std.specs.Prelude.{◌≡◌, ◌⊎◌, ℕ, ◌<◌, true, false, List, ◌++◌, codes, Option, None, Some, IfSome, Result}
+use Rattle.std.specs.Prelude.{Ok, Err}
 use Rattle.std.specs.Io.KnownBytes.{Appends, Keeps}
 use Rattle.std.specs.declared.io.Error.{Error}
 use Rattle.brd_board.specs.declared.event.Event.{Event}
@@ -9,14 +10,21 @@ use Rattle.brd_image.specs.declared.building.Loaded.{Loaded}
 use Rattle.brd_inputs.specs.Opening.{OpensPair}
 use Rattle.brd_inputs.specs.Start.{IsLoaded, KeepsFromLoading}
 use Rattle.brd_inputs.specs.declared.fault.CommandFault.{CommandFault}
-use Rattle.brd_inputs.specs.declared.fault.CommandFault.TheVariants.{NoMemory, Search, Write, Fails}
+use Rattle.brd_inputs.specs.declared.fault.CommandFault.TheVariants.{NoMemory, Schedule, Search, Write, Fails}
 use Rattle.brd_inputs.specs.declared.inputs.Pair.{Pair}
+use Rattle.brd_inputs.specs.declared.schedule_fault.ScheduleFault.TheVariants.{TooLong}
 use Rattle.brd_journal.specs.Text.{text_of}
+use Rattle.brd_places.specs.declared.left.Left.{Left}
+use Rattle.brd_reach.specs.Reaching.{ReachedSo}
+use Rattle.brd_reach.specs.declared.searching.Reached.{Reached}
+use Rattle.brd_reach.specs.declared.searching.Reached.TheVariants as reached
 use Rattle.brd_report.specs.Output.{WritesFront}
 use Rattle.brd_search.specs.Plans.{IsPlan, KeepsFromPlanning}
 use Rattle.brd_search.specs.Searches.{Answers, IsFewest, IsShortest}
 use Rattle.brd_search.specs.Shown.{shown}
-use Rattle.brd_search.specs.declared.fault.SearchFault.TheVariants.{OverInput}
+use Rattle.brd_search.specs.declared.fault.SearchFault.{SearchFault}
+use Rattle.brd_search.specs.declared.fault.SearchFault.TheVariants.{LongBlock, MorePlaces, OverInput, Terminates}
+use Rattle.brd_search.specs.declared.fault.SearchFault.TheVariants.{Unlearned}
 use Rattle.brd_search.specs.declared.options.SearchOptions.{SearchOptions}
 use Rattle.brd_search.specs.declared.plan.Plan.{Plan}
 use Rattle.brd_threads.specs.Processors.{processors_of}
@@ -33,26 +41,65 @@ Tells plan b None text journal = Begins (codes "none of ") text × (journal ≡ 
 Tells plan b (Some events) text journal =
     Begins (codes "fails ") text × (journal ≡ Some (text_of b.memory.order (shown plan.wanted b events)))
 
--- The text and the journal tell what a search of a board has answered. Its plan is the one that the options ask for.
--- What it has answered is so: the schedule is within the bounds and fails, or none of the plan's shard within them
--- does. None fails with fewer preemptions than a schedule's bounds leave; or if the shortest is asked for, none with
--- fewer events within the plan's.
+-- The text and the journal tell what a search of a board within bounds has answered, which is so: the schedule is
+-- within the bounds and fails, or none of the plan's shard within them does. None fails with fewer preemptions than a
+-- schedule's bounds leave; or if the shortest is asked for, none with fewer events within the plan's.
+pub record IsSearched (plan : Plan) (b : BoardState) (text : List ℕ) (journal : Option (List ℕ)) : Type 0 where
+  pub bounds : Bounds
+  pub schedule : Option (List Event)
+  pub answers : Answers plan b bounds schedule
+  pub fewest : plan.shortest ≡ false → IsFewest plan b bounds schedule
+  pub short : plan.shortest ≡ true → IsShortest plan b bounds schedule
+  pub tells : Tells plan b schedule text journal
+
+-- what is left of ticks and raises, by bounds
+abbrev pub left_by : Bounds → Left
+left_by bounds = record { ticks = bounds.ticks; raises = bounds.raises; owed = bounds.owed }
+
+-- What is told of a search for which events and preemptions have no bound: that none fails, and no journal; or that a
+-- schedule fails, and its journal.
+abbrev pub TellsAll : Plan → BoardState → Reached → List ℕ → Option (List ℕ) → Type 0
+TellsAll plan b (reached.Holds places) text journal = Begins (codes "none ") text × (journal ≡ None)
+TellsAll plan b (reached.Fails events) text journal = Tells plan b (Some events) text journal
+TellsAll plan b (reached.Unknown why) text journal = ⊥
+
+-- The text and the journal tell what such a search has answered, which is so: none fails, however many events and
+-- preemptions it has; or the events lead to a board that fails.
+pub record IsReached (plan : Plan) (b : BoardState) (text : List ℕ) (journal : Option (List ℕ)) : Type 0 where
+  pub answer : Reached
+  pub so : ReachedSo b (left_by plan.bounds) plan.among plan.wanted answer
+  pub tells : TellsAll plan b answer text journal
+
+-- The text and the journal tell what a search of a board has answered, by the plan that the options ask for: within
+-- bounds, or where places are asked for without any for events and preemptions.
 pub record IsTold (options : SearchOptions) (loaded : Loaded) (text : List ℕ) (journal : Option (List ℕ)) : Type 0 where
   pub plan : Plan
   pub planned : IsPlan options loaded.board (processors_of loaded.board) loaded.image.symbols plan
-  pub bounds : Bounds
-  pub schedule : Option (List Event)
-  pub answers : Answers plan loaded.board bounds schedule
-  pub fewest : plan.shortest ≡ false → IsFewest plan loaded.board bounds schedule
-  pub short : plan.shortest ≡ true → IsShortest plan loaded.board bounds schedule
-  pub tells : Tells plan loaded.board schedule text journal
+  pub within : plan.places ≡ 0 → IsSearched plan loaded.board text journal
+  pub all : 0 < plan.places → IsReached plan loaded.board text journal
+
+-- what keeps a search without bounds from an answer
+abbrev pub IsUnknown : SearchFault → Type 0
+IsUnknown MorePlaces = Unit {0}
+IsUnknown LongBlock = Unit {0}
+IsUnknown Terminates = Unit {0}
+IsUnknown Unlearned = Unit {0}
+IsUnknown _ = ⊥
+
+-- what keeps such a search from being told, its options being right
+abbrev pub IsUntoldOfAll : CommandFault → Type 0
+IsUntoldOfAll fault =
+    (fault ≡ NoMemory) ⊎ ((fault ≡ Schedule TooLong) ⊎ ((why : SearchFault) × (fault ≡ Search why) × IsUnknown why))
 
 -- What keeps a search of a board from being told: want of memory, or what is wrong with its options. (No journal of one
--- is too long: a schedule has a million events at most, and its fair end 20,000 rounds of 129.)
+-- within bounds is too long: a schedule has a million events at most, and its fair end 20,000 rounds of 129.) Without
+-- bounds it is also what isn't known, or a journal of too many events.
 abbrev pub KeepsFromSearching : SearchOptions → Loaded → CommandFault → Type 0
 KeepsFromSearching options loaded NoMemory = Unit {0}
 KeepsFromSearching options loaded (Search fault) =
     KeepsFromPlanning options loaded.board (processors_of loaded.board) loaded.image.symbols fault
+    ⊎ ((0 < options.places) × IsUnknown fault)
+KeepsFromSearching options loaded (Schedule TooLong) = 0 < options.places
 KeepsFromSearching options loaded _ = ⊥
 
 -- the object file and the configuration make a board, and the text and the journal tell of a search of it

@@ -3,6 +3,7 @@
 ghost use Rattle.std.specs.Prelude.{◌≡◌, ◌++◌, codes, option_map, IfOk, IfSome, MatchResult, None, Some};
 ghost use Rattle.brd_running.specs.ExploreCommand.{Explores, ExploreFilesEnd, IsTold, KeepsFromSearching};
 ghost use Rattle.brd_running.specs.ExploreCommand.{Begins, RefusesExploring, Tells};
+ghost use Rattle.brd_running.specs.ExploreCommand.{IsReached, IsUnknown, IsUntoldOfAll, left_by};
 ghost use Rattle.brd_running.specs.Saving.{IsOfJournal};
 ghost use Rattle.brd_search.specs.Shown.{shown};
 ghost use Rattle.brd_board.specs.Board.{BoardState};
@@ -10,13 +11,16 @@ ghost use Rattle.brd_board.specs.Board.{BoardState};
 use crate::saving::{is_over, journal_text, save};
 use brd_base::NoMemory;
 use brd_board::{Board, Event};
-use brd_explore::{Counts, Watch};
+use brd_explore::{Bounds, Counts, Watch};
 use brd_inputs::{CommandFault, Files, Loaded, Pair, open_pair, read_board};
 use brd_mem::Symbol;
+use brd_places::Left;
 use brd_progress::Progress;
+use brd_reach::{Reached, Unknown, reach};
 use brd_report::write_whole;
 use brd_search::{
-    Plan, SearchFault, SearchOptions, plan_of, put_found, put_none, search, shown_events,
+    Plan, SearchFault, SearchOptions, plan_of, put_all_hold, put_found, put_none, search,
+    shown_events,
 };
 use brd_threads::processors;
 use std::alloc::Global;
@@ -27,6 +31,9 @@ const FAILS: &[u8] = b"fails ";
 
 /// With what the text begins that says that none fails.
 const NONE: &[u8] = b"none of ";
+
+/// With what it begins where events and preemptions have no bound.
+const ALL_HOLD: &[u8] = b"none ";
 
 /// What is told of a search.
 #[derive(Drop)]
@@ -121,12 +128,84 @@ fn told_of<P: Progress>(
         Ok(plan) => plan,
         Err(fault) => return Err(CommandFault::of_search(fault)),
     };
+    if plan.places > 0 {
+        return told_of_all(alloc, &loaded.board, symbols, &plan);
+    }
     let mut watch = Searching::new(progress);
     let searched = search(alloc, &loaded.board, &plan, &mut watch)?;
     match searched.schedule {
         Some(events) => told_found(alloc, &loaded.board, symbols, &plan, &events),
         None => Ok(told_none(alloc, symbols, &plan, searched.counts)?),
     }
+}
+
+/// What is told of a search for which events and preemptions have no bound.
+fn told_of_all(
+    alloc: Global,
+    board: &Board,
+    symbols: &[Symbol],
+    plan: &Plan,
+) -> Result<Told, CommandFault>
+    ensures { MatchResult result
+        (λ told. IsReached plan.now board.now told.text.items (option_map (λ text. text.items) told.journal))
+        IsUntoldOfAll }
+{
+    let left = left_of(plan.bounds);
+    let most = plan.places as usize;
+    match reach(
+        alloc,
+        board,
+        left,
+        plan.among.as_slice(),
+        &plan.wanted,
+        most,
+    )? {
+        Reached::Holds(places) => Ok(told_hold(alloc, symbols, plan, places)?),
+        Reached::Fails(events) => told_found(alloc, board, symbols, plan, events.as_slice()),
+        Reached::Unknown(why) => Err(CommandFault::Search(fault_of(why))),
+    }
+}
+
+/// What is left of ticks and raises, by bounds.
+fn left_of(bounds: Bounds) -> Left
+    ensures { result ≡ left_by bounds }
+{
+    Left {
+        ticks: bounds.ticks,
+        raises: bounds.raises,
+        owed: bounds.owed,
+    }
+}
+
+/// What is told where something isn't known.
+fn fault_of(why: Unknown) -> SearchFault
+    ensures { IsUnknown result }
+{
+    match why {
+        Unknown::Places => SearchFault::MorePlaces,
+        Unknown::Long => SearchFault::LongBlock,
+        Unknown::Terminates => SearchFault::Terminates,
+        Unknown::Rounds | Unknown::Fair | Unknown::Waits => SearchFault::Unlearned,
+    }
+}
+
+/// What is told where no schedule fails, however many events and preemptions it has.
+fn told_hold(
+    alloc: Global,
+    symbols: &[Symbol],
+    plan: &Plan,
+    places: usize,
+) -> Result<Told, NoMemory>
+    ensures { IfOk result
+        (λ told. Begins (codes "none ") told.text.items × (option_map (λ text. text.items) told.journal ≡ None)) }
+{
+    let mut rest = Vec::new(alloc);
+    put_all_hold(alloc, symbols, plan, places as u64, &mut rest)?;
+    let text = joined(alloc, ALL_HOLD, &rest)?;
+    Ok(Told {
+        text,
+        journal: None,
+    })
 }
 
 /// What is told where no schedule fails.

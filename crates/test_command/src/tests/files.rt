@@ -165,6 +165,7 @@ const SEARCH: SearchOptions<'static> = SearchOptions {
     shortest: false,
     shard: None,
     remember: 0,
+    places: 0,
 };
 
 /// The options of a journal that is made shorter.

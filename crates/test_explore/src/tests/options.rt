@@ -32,6 +32,7 @@ const OPTIONS: SearchOptions = SearchOptions {
     shortest: false,
     shard: None,
     remember: 0,
+    places: 0,
 };
 
 /// Options, and what is wrong with them.
@@ -62,6 +63,14 @@ const FAULTS: &[(SearchOptions<'static>, SearchFault)] = &[
             ..OPTIONS
         },
         SearchFault::Remember,
+    ),
+    (
+        SearchOptions {
+            places: 1,
+            remember: 1,
+            ..OPTIONS
+        },
+        SearchFault::Places,
     ),
     (
         SearchOptions {

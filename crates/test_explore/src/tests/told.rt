@@ -115,6 +115,7 @@ fn options_of(case: &Case) -> SearchOptions<'static> {
         shortest: true,
         shard: None,
         remember: 0,
+        places: 0,
     }
 }
 

@@ -1,4 +1,4 @@
-use Rattle.std.proofs.Common.{rules, ℕ, ◌≤◌, subst}
+use Rattle.std.proofs.Common.{rules, ℕ, ◌≤◌, arith, subst}
 use Rattle.std.specs.Prelude.{None}
 use Rattle.brd_running.proofs.ExploreLemmas.{told_found}
 use Rattle.brd_running.proofs.explore_command.told_of.Goals as goal
@@ -6,7 +6,7 @@ use Rattle.brd_running.proofs.explore_command.told_of.Goals as goal
 pub returns-in-Some : goal.returns-in-Some
 returns-in-Some g c =
     told_found c.args.options c.args.loaded.now c.in-Ok.plan c.in_ok-searched.searched.bounds c.in-Some.events.items
-    c.told_found.result (search rules)
+    c.told_found.result (λ some. absurd (omega (arith, some, c.if-plan-gt0.false))) (search rules)
     (subst (λ (n : ℕ). n ≤ 8) c.processors-cpus.ensures.is c.processors-cpus.ensures.few)
     (rw c.in-Some.is at c.in_ok-searched.ensures.is) (rw c.in-Some.is at c.in_ok-searched.ensures.fewest)
     (rw c.in-Some.is at c.in_ok-searched.ensures.short) (rw (c.deref.ensures.value, c.in-Some.events-is) at c.told_found.ensures)
@@ -15,10 +15,13 @@ pub returns : goal.returns
 returns g c = record {
   plan = c.in-Ok.plan;
   planned = search rules;
-  bounds = c.in_ok-searched.searched.bounds;
-  schedule = None;
-  answers = search rules;
-  fewest = search rules;
-  short = search rules;
-  tells = c.in_ok-told_none-in-None.ensures c.args.loaded.now.board;
+  within = λ none. record {
+    bounds = c.in_ok-searched.searched.bounds;
+    schedule = None;
+    answers = search rules;
+    fewest = search rules;
+    short = search rules;
+    tells = c.in_ok-told_none-in-None.ensures c.args.loaded.now.board;
+  };
+  all = λ some. absurd (omega (arith, some, c.if-plan-gt0.false));
 }
