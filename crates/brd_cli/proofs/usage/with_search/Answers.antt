@@ -8,11 +8,14 @@ returns c =
     let with_1 = c.in_ok-arg.ensures.shape c.flag.ensures.own ∙ ap₂ with_rule none c.flag.ensures.rule in
     let with_2 = c.in_ok-arg-2.ensures.shape c.option.ensures.own ∙ ap₂ with_rule with_1 c.option.ensures.rule in
     let with_3 = c.in_ok-arg-3.ensures.shape c.count.ensures.own ∙ ap₂ with_rule with_2 c.count.ensures.rule in
-    let with_4 = c.in_ok-command.ensures.shape c.option-2.ensures.own ∙ ap₂ with_rule with_3 c.option-2.ensures.rule in
+    let with_4 = c.in_ok-arg-4.ensures.shape c.option-2.ensures.own ∙ ap₂ with_rule with_3 c.option-2.ensures.rule in
+    let with_5 = c.in_ok-command.ensures.shape c.data_option.ensures.own ∙ ap₂ with_rule with_4 c.data_option.ensures.rule in
     record {
-      shape = with_4;
+      shape = with_5;
       globals = λ none_yet. rw (
         c.in_ok-command.ensures.globals,
+        c.data_option.ensures.own,
+        c.in_ok-arg-4.ensures.globals,
         c.option-2.ensures.own,
         c.in_ok-arg-3.ensures.globals,
         c.count.ensures.own,
