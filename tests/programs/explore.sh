@@ -172,6 +172,56 @@ while IFS='|' read -r source config words told how; do
     fi
 done < $examples/cases
 
+# ---- Without bounds: a program that is right within them is right, and what is found within them is found.
+
+# unbounded OPTION..: the same without those that bound events and preemptions, or that such a search doesn't know.
+unbounded() {
+    options=()
+    while [ $# -gt 0 ]; do
+        case $1 in
+        --events | --preemptions | --fair | --shard | --remember) shift ;;
+        --shortest) ;;
+        *) options+=("$1") ;;
+        esac
+        shift
+    done
+}
+
+# holds STATUS: what is wrong with a search without bounds that should have found nothing.
+holds() {
+    [ "$1" = 0 ] || echo -n "; status $1, wanted 0: $(head -c 300 "$work/err")"
+    [ ! -s "$work/err" ] || echo -n "; standard error is '$(head -c 300 "$work/err")'"
+    head -n 1 "$work/out" | grep -q '^none fails, however many events and preemptions it has: at most ' &&
+        sed -n 2p "$work/out" | grep -q '^looked for: .' && sed -n 3p "$work/out" | grep -qE '^[0-9]+ places? w(as|ere) gone through$' ||
+        echo -n "; it says '$(head -c 300 "$work/out")'"
+}
+
+while IFS='|' read -r source config words told how; do
+    case $source in '#'* | '') continue ;; esac
+    read -ra given <<< "$words"
+    unbounded "${given[@]}"
+    case $source,$words,$told in
+    handoff_right.s,*)
+        # A task waits in a loop that nobody else can see.
+        assembled "$source"
+        explores "$image" "$examples/$config" "${options[@]}" --places 1000000
+        check "explore: $source $words, without bounds" 2 "$work/nothing" \
+            "board: the search: not known: a processor executes 10,000,000 instructions in a row that no other can see" $?
+        ;;
+    *_right.s,*,none*)
+        assembled "$source"
+        explores "$image" "$examples/$config" "${options[@]}" --places 1000000
+        verdict "explore: $source $words, without bounds" "$(holds $?)"
+        ;;
+    *,*--fair*,*) ;;
+    *,found*)
+        assembled "$source"
+        explores "$image" "$examples/$config" "${options[@]}" --places 1000000 --out "$work/found"
+        verdict "explore: $source $words, without bounds" "$(is_found $?)$(shown "$how" "$examples/$config" "$work/found")"
+        ;;
+    esac
+done < $examples/cases
+
 # ---- The same board in the other byte order: as many schedules, and the words are those of its own order.
 
 fair=0
