@@ -92,6 +92,6 @@ else
     check_script "page: moves in a browser" tests/programs/pages/moves "$chromium" "$work"
     check_script "the sheet for printing" tests/programs/pages/sheet "$chromium" "$work/sheet.html"
     check_script "page: everybody can use it" tests/programs/pages/access "$chromium" "$work/functions.html" \
-        "$work/lost_update-racy.html" "$work/deadlock.html"
+        "$work/lost_update-racy.html" "$work/deadlock-deadlock.html"
 fi
 summary
