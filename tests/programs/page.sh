@@ -43,7 +43,7 @@ done
 lost=("$work/lost_update-racy.elf" examples/lost_update/racy.cfg examples/lost_update/racy.journal)
 page "a part" "$work/part.html" --from 5 --to 20 "${lost[@]}"
 
-# Its limits: 100,000 events, and 8 MiB.
+# Its limits: 100,000 events, and 8 MiB for more than 1,000.
 cat > "$work/long.journal" << 'END'
 board-journal 1
 S 1 100001
@@ -68,6 +68,19 @@ END
 "$board" asm "$work/wide.s" "$work/wide.elf"
 refused "more than 8 MiB" "$too_much" --to 100000 "$work/wide.elf" "$work/wide.cfg" "$work/long.journal"
 page "the beginning of that" "$work/wide.html" --to 5000 "$work/wide.elf" "$work/wide.cfg" "$work/long.journal"
+{
+    echo "main:"
+    printf 'a%.0s' {1..60000}
+    echo ":"
+    printf '        nop%.0s\n' {1..160}
+    echo "        b       main"
+    echo "        nop"
+} > "$work/named.s"
+"$board" asm "$work/named.s" "$work/named.elf"
+refused "more than 8 MiB of names" "$too_much" --to 1001 "$work/named.elf" "$work/wide.cfg" "$work/long.journal"
+page "1,000 events in more than 8 MiB" "$work/named.out" --to 1000 \
+    "$work/named.elf" "$work/wide.cfg" "$work/long.journal"
+[ "$(stat -c %s "$work/named.out")" -gt 8388608 ] || fail "page: 1,000 events in more than 8 MiB" "they need less"
 cmp -s <("$board" trace --format html --cpu 1 --instructions "${lost[@]}") "$work/lost_update-racy.html" ||
     fail "page: --cpu and --instructions" "they change the page"
 

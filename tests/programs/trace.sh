@@ -176,6 +176,37 @@ off() {
     done
 }
 
+# A picture has at most 5,000 lanes and slices. Marks never keep one from being made.
+# pictured NAME MARKS ARGUMENTS..: a picture is made, which has so many marks of calls.
+pictured() {
+    local wrong=
+    run_trace --format svg "${@:3}" || wrong="; status $?: $(cat "$work/err")"
+    [ "$(tail -n 1 "$work/out")" = "</svg>" ] || wrong="$wrong; another last line"
+    [ "$(grep -c '(call), at' "$work/out")" = "$2" ] || wrong="$wrong; it has other marks"
+    verdict "trace: $1" "$wrong"
+}
+cat > "$work/calls.s" << 'END'
+main:   addiu   $a0, $zero, 0
+        addiu   $v0, $zero, 10          # rot_rdq
+        syscall
+        b       main
+        nop
+END
+cat > "$work/calls.cfg" << 'END'
+BOARD(1, 0x10000);
+CRE_TSK(1, {TA_ACT, 1, main, 1, 256, NULL});
+END
+{ cat "$work/calls.cfg"; echo 'CRE_TSK(2, {TA_ACT, 2, main, 1, 256, NULL});'; } > "$work/turns.cfg"
+printf 'board-journal 1\nS 1 30000\n' > "$work/calls.journal"
+assembled "many calls" "$work/calls.s"
+pictured "a picture of many calls" 4800 --to 24000 "$work/image" "$work/calls.cfg" "$work/calls.journal"
+pictured "a picture of more calls than it shows" 0 --to 26000 "$work/image" "$work/calls.cfg" "$work/calls.journal"
+pictured "a picture of many slices, and more with its calls" 0 \
+    --to 8000 "$work/image" "$work/turns.cfg" "$work/calls.journal"
+refused "a picture of more slices than it shows" 2 \
+    "board: the trace: it has more to draw than a picture can show: choose fewer events by --from and --to" \
+    --format svg --to 9000 "$work/image" "$work/turns.cfg" "$work/calls.journal"
+
 # Names of symbols and of files of which an object file speaks may have any byte. What isn't printable ASCII is shown as
 # `\xHH`, so that a name can't end a line, as that of a forged verdict, nor command a terminal.
 # plain NAME TEXT ARGUMENTS..: what `board trace` prints has the text, and no byte but newlines and printable ASCII.

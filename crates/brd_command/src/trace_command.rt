@@ -40,13 +40,13 @@ use brd_lines::Source;
 use brd_listing::Places;
 use brd_mem::Image;
 use brd_names::Names;
-use brd_page::{PageFault, page};
+use brd_page::{PageFault, draw, page};
 use brd_printer::{Manner, Options, WordsFault, add_words};
 use brd_progress::Progress;
 use brd_report::write_whole;
 use brd_running::PIECE;
 use brd_summary::{put_end, put_summary};
-use brd_timeline::{PictureFault, Timeline, json, svg};
+use brd_timeline::{PictureFault, Timeline, json};
 use brd_trace::Tracer;
 use brd_verdicts::findings_of;
 use std::alloc::Global;
@@ -406,9 +406,8 @@ impl<'a> Traced<'a> {
             self.now.part.to (W.contents writer.old) (W.contents writer.new) }
     {
         let timeline = self.timeline(tracer, progress)?;
-        let mut out = Vec::new(self.alloc);
-        match svg(&timeline, &mut out) {
-            Ok(()) => written(writer, &out),
+        match draw(self.alloc, timeline) {
+            Ok(text) => written(writer, &text),
             Err(PictureFault::NoMemory) => Err(CommandFault::NoMemory),
             Err(PictureFault::TooMuch) => Err(CommandFault::Trace(TraceFault::TooMuch)),
         }
@@ -424,7 +423,9 @@ impl<'a> Traced<'a> {
         requires start { tracer.playback.at ≡ 0 }
         requires from { self.now.part.from ≤ self.now.part.to }
         requires within { self.now.part.to ≤ length self.now.journal.now.events }
-        ensures { EndsPaging result (W.contents writer.old) (W.contents writer.new) }
+        requires knows { IsKnown tracer.playback.board self.now.journal.now.events tracer }
+        ensures { EndsPaging result tracer.playback.board self.now.journal.now.events self.now.part.from
+            self.now.part.to (W.contents writer.old) (W.contents writer.new) }
     {
         let mut tracer = tracer;
         tracer.printer.options.cpu = None;

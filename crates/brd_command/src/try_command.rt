@@ -1,11 +1,10 @@
 //! The command `try`.
 
 ghost use Rattle.std.specs.Prelude.{◌≡◌, ◌++◌, false, IfOk, IfSome, MatchResult, option_map, string_bytes};
-ghost use Rattle.brd_command.specs.TryCommand.{IsObjectOf, IsTriedOf, KeepsFromPaging, KeepsFromTryingIt};
+ghost use Rattle.brd_command.specs.TryCommand.{IsObjectOf, IsPageOf, IsTriedOf, KeepsFromPaging, KeepsFromTryingIt};
 ghost use Rattle.brd_command.specs.TryCommand.{RefusesTrying, SavesBoth, SavesPage, Tries, TryFilesEnd};
 ghost use Rattle.brd_running.specs.AsmCommand.{KeepsFromAssembling};
 ghost use Rattle.brd_inputs.specs.FileKinds.{is_object_file as looks_like_one};
-ghost use Rattle.brd_page.specs.Page.{IsRunPage};
 
 use crate::trace_command::lines_of;
 use brd_base::NoMemory;
@@ -177,7 +176,8 @@ fn save_page<F: Files>(
 
 /// The page of what was run.
 fn page_of(alloc: Global, texts: &Texts) -> Result<Vec<u8>, CommandFault>
-    ensures { MatchResult result (λ page. IsRunPage page.items)
+    ensures { MatchResult result
+        (λ page. IsPageOf texts.now.image.items texts.now.config.items texts.now.last.items page.items)
         (KeepsFromPaging texts.now.image.items texts.now.config.items texts.now.last.items) }
 {
     let Start {

@@ -1,2 +1,5 @@
 pub mod Data
+pub mod Events
+pub mod Picture
 pub mod Page
+pub mod Recorder

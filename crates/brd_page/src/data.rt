@@ -2,7 +2,9 @@
 
 ghost use Rattle.std.specs.Prelude.{◌≡◌, ◌<◌, ◌++◌, ◌∷◌, [], true, OnOk, length};
 ghost use Rattle.brd_text.specs.Hex.{hex_digit};
-ghost use Rattle.std.specs.List.{list_all};
+ghost use Rattle.std.specs.Fmt.{decimal};
+ghost use Rattle.std.specs.List.{flat_map, list_all};
+ghost use Rattle.brd_listing.specs.Listing.{IsBehind};
 ghost use Rattle.brd_page.specs.Data as texts;
 
 use brd_base::NoMemory;
@@ -103,9 +105,14 @@ impl Json {
         self.push(b'{')
     }
 
-    /// Ends an object.
+    /// Ends a list, puts these members behind it in the object in which it is, and ends that.
     #[tactic(auto, unfolding(crate::specs::Data::is_plain))]
-    pub(crate) fn end_object(&mut self) -> Result<(), NoMemory> {
+    pub(crate) fn end_with(&mut self, members: &Json) -> Result<(), NoMemory>
+        ensures { OnOk result (self.new ≡ self.old ++ texts.end_text members.now) }
+    {
+        self.push(b']')?;
+        self.push(b',')?;
+        self.extend(members)?;
         self.push(b'}')
     }
 
@@ -119,11 +126,93 @@ impl Json {
     /// Puts a number at the end.
     pub(crate) fn number(&mut self, number: u64) -> Result<(), NoMemory> {
         self.separate()?;
+        self.put_digits(number)
+    }
+
+    /// Puts the digits of a number at the end.
+    fn put_digits(&mut self, number: u64) -> Result<(), NoMemory>
+        ensures { OnOk result (self.new ≡ self.old ++ decimal number) }
+    {
         let mut buffer = Buffer::new();
-        for byte in buffer.format(number).as_bytes() {
-            self.put_byte(*byte)?;
-        }
+        self.put_bytes(buffer.format(number).as_bytes())
+    }
+
+    /// Puts a text at the end.
+    pub(crate) fn extend(&mut self, other: &Json) -> Result<(), NoMemory>
+        ensures { OnOk result (self.new ≡ self.old ++ other.now) }
+    {
+        self.bytes.extend_from_slice(other.bytes.as_slice())?;
         Ok(())
+    }
+
+    /// Puts the object of an event at the end, behind others unless it is the first one: whose step it was, where, and
+    /// then these members.
+    pub(crate) fn put_row(
+        &mut self,
+        first: bool,
+        cpu: Option<u8>,
+        place: Option<u32>,
+        members: &Json,
+    ) -> Result<(), NoMemory>
+        ensures { OnOk result (IsBehind (texts.IsRow first cpu place) self.old self.new) }
+    {
+        self.begin_row(first)?;
+        self.put_head(cpu, place)?;
+        self.put_others(cpu.is_some() || place.is_some(), members)
+    }
+
+    /// Begins the object of an event, behind others unless it is the first one.
+    #[tactic(auto, unfolding(crate::specs::Data::is_plain))]
+    fn begin_row(&mut self, first: bool) -> Result<(), NoMemory>
+        ensures { OnOk result (self.new ≡ self.old ++ texts.row_front first) }
+    {
+        if !first {
+            self.push(b',')?;
+        }
+        self.push(b'\n')?;
+        self.push(b'{')
+    }
+
+    /// Puts at the end whose step an event was, and where.
+    #[tactic(auto, unfolding(crate::specs::Data::is_plain))]
+    fn put_head(&mut self, cpu: Option<u8>, place: Option<u32>) -> Result<(), NoMemory>
+        ensures { OnOk result (self.new ≡ self.old ++ texts.head_text cpu place) }
+    {
+        match (cpu, place) {
+            (Some(cpu), Some(place)) => {
+                self.put_member(b'c', u64::from(cpu))?;
+                self.push(b',')?;
+                self.put_member(b'a', u64::from(place))
+            }
+            (Some(cpu), None) => self.put_member(b'c', u64::from(cpu)),
+            (None, Some(place)) => self.put_member(b'a', u64::from(place)),
+            (None, None) => Ok(()),
+        }
+    }
+
+    /// Puts a member at the end whose name is one letter, without a comma before it.
+    #[tactic(auto, unfolding(crate::specs::Data::is_plain))]
+    fn put_member(&mut self, name: u8, number: u64) -> Result<(), NoMemory>
+        requires { texts.is_plain name ≡ true }
+        ensures { OnOk result (self.new ≡ self.old ++ texts.member_text name number) }
+    {
+        self.push(b'"')?;
+        self.push(name)?;
+        self.push(b'"')?;
+        self.push(b':')?;
+        self.put_digits(number)
+    }
+
+    /// Puts the other members of an event's object at the end, with a comma where they are behind some, and ends it.
+    #[tactic(auto, unfolding(crate::specs::Data::is_plain))]
+    fn put_others(&mut self, behind: bool, members: &Json) -> Result<(), NoMemory>
+        ensures { OnOk result (IsBehind texts.IsAny self.old self.new) }
+    {
+        if behind && members.len() > 0 {
+            self.push(b',')?;
+        }
+        self.extend(members)?;
+        self.push(b'}')
     }
 
     /// Puts a word at the end.
@@ -149,10 +238,18 @@ impl Json {
         ensures { OnOk result (self.new ≡ self.old ++ texts.data_string text.now) }
     {
         self.push(b'"')?;
+        self.put_bytes(text)?;
+        self.push(b'"')
+    }
+
+    /// Puts bytes at the end as they stand in a string.
+    fn put_bytes(&mut self, text: &[u8]) -> Result<(), NoMemory>
+        ensures { OnOk result (self.new ≡ self.old ++ flat_map texts.data_byte text.now) }
+    {
         for byte in text {
             self.put_byte(*byte)?;
         }
-        self.push(b'"')
+        Ok(())
     }
 
     /// Puts a byte at the end as it stands in a string.

@@ -6,18 +6,6 @@ use brd_base::NoMemory;
 use brd_exec::Context;
 use brd_happening::{Access, AccessKind, Answer, Happening, Instruction, What};
 
-/// Puts the beginning of an event at the end: the processor of a step, and the address of the instruction at which it
-/// was.
-pub(crate) fn put_head(json: &mut Json, happening: &Happening) -> Result<(), NoMemory> {
-    if let Some(cpu) = happening.cpu {
-        json.member("c", u64::from(cpu))?;
-    }
-    if let Some(place) = happening.place {
-        json.member("a", u64::from(place))?;
-    }
-    Ok(())
-}
-
 /// Puts at the end what an instruction wrote and accessed, and where its processor goes on, unless that is behind it.
 pub(crate) fn put_instruction(
     json: &mut Json,

@@ -10,13 +10,16 @@ mod data;
 mod event;
 mod fault;
 mod listing;
+mod picture;
 mod recorder;
 mod run_page;
 mod seen;
 mod source;
 mod template;
+mod told;
 mod words;
 
 pub use fault::PageFault;
+pub use picture::draw;
 pub use run_page::{MOST_BYTES, MOST_EVENTS, Part, page};
 pub use source::SourceLine;

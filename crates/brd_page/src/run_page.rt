@@ -1,32 +1,49 @@
 //! A page.
 
-ghost use Rattle.std.specs.Prelude.{◌≡◌, ◌≤◌, ◌+◌, ◌++◌, length, IfOk};
-ghost use Rattle.brd_page.specs.Page.{IsPage, IsRunPage, most_bytes, most_events};
+ghost use Rattle.std.specs.Prelude.{◌≡◌, ◌≤◌, ◌<◌, ◌+◌, ◌-◌, ◌++◌, ℕ, List as ListOf, Err, Some, length};
+ghost use Rattle.std.specs.Prelude.{IfOk, OnOk, true};
+ghost use Rattle.brd_board.specs.declared.event.Event.{Event as EventOf};
+ghost use Rattle.brd_board.specs.Board.{BoardState as BoardOf};
+ghost use Rattle.brd_journal.specs.Playing.{IsPlayed};
+ghost use Rattle.brd_trace.specs.Recorded.{begun_of, IsNoted};
+ghost use Rattle.brd_page.specs.declared.fault.PageFault.TheVariants.{TooMuch};
+ghost use Rattle.brd_listing.specs.Listing.{IsBehind};
+ghost use Rattle.brd_page.specs.Data.{IsAny};
+ghost use Rattle.brd_page.specs.Events.{IsData};
+ghost use Rattle.brd_page.specs.Page.{IsPage, IsRunPage, always_shown, most_bytes, most_events};
+ghost use Rattle.brd_page.specs.Picture.{IsDrawn};
+ghost use Rattle.brd_page.specs.Recorder.{IsOfRun};
 
 use crate::data::Json;
 use crate::fault::PageFault;
 use crate::listing::{put_listing, put_names};
+use crate::picture::draw;
 use crate::recorder::Recorder;
 use crate::source::SourceLine;
 use crate::template::{FRONT, MIDDLE, REST};
+use crate::told::Told;
 use brd_base::NoMemory;
 use brd_journal::Journal;
 use brd_listing::Places;
 use brd_mem::Image;
 use brd_names::Names;
 use brd_printer::Manner;
-use brd_timeline::{PictureFault, svg};
+use brd_timeline::PictureFault;
 use brd_trace::Tracer;
 use std::alloc::Global;
 
 /// How many events a page shows at most.
 pub const MOST_EVENTS: u64 = 100_000;
 
-/// How many bytes a page has at most: 8 MiB.
+/// How many bytes a page of many events has at most: 8 MiB.
 pub const MOST_BYTES: usize = 8_388_608;
 
+/// A page of at most so many events may have more bytes.
+pub const ALWAYS_SHOWN: u64 = 1_000;
+
 /// What stands in the place of a picture that would have too much to draw.
-const NO_PICTURE: &str = "<p>Too much for a picture: choose fewer events by --from and --to.</p>\n";
+pub(crate) const NO_PICTURE: &str =
+    "<p>Too much for a picture: choose fewer events by --from and --to.</p>\n";
 
 /// What a page shows.
 #[derive(Clone, Copy)]
@@ -46,23 +63,37 @@ pub struct Part<'a> {
 ///
 /// # Errors
 ///
-/// `TooMuch` where there are more than `MOST_EVENTS` events, or the page would have more than `MOST_BYTES` bytes;
-/// `NoMemory` where memory runs out.
+/// `TooMuch` where there are more than `MOST_EVENTS` events, or more than `ALWAYS_SHOWN` and the page would have more
+/// than `MOST_BYTES` bytes; `NoMemory` where memory runs out.
 pub fn page(alloc: Global, tracer: Tracer, part: Part) -> Result<Vec<u8>, PageFault>
-    ensures page { IfOk result (λ page. IsRunPage page.items) }
-    ensures bytes { IfOk result (λ page. length page.items ≤ most_bytes) }
+    requires on { tracer.playback.at ≤ part.to }
+    requires within { part.to ≤ length part.journal.now.events }
+    ensures page { (boot : BoardOf) → IsPlayed boot part.entry.journal.now.events tracer.playback
+        → IsNoted boot part.entry.journal.now.events tracer.playback.at tracer.notes
+        → IfOk result (λ page. IsRunPage boot part.entry.journal.now.events tracer.playback.at part.entry.to
+        page.items) }
+    ensures bytes { always_shown < part.entry.to - tracer.playback.at
+        → IfOk result (λ page. length page.items ≤ most_bytes) }
     ensures events { IfOk result (λ page. part.entry.to ≤ tracer.playback.at + most_events) }
+    ensures refused { result ≡ Err TooMuch → always_shown < part.entry.to - tracer.playback.at }
 {
-    if part.to.saturating_sub(tracer.playback.at) > MOST_EVENTS {
+    let events = part.to - tracer.playback.at;
+    if events > MOST_EVENTS {
         return Err(PageFault::TooMuch);
     }
+    let many = events > ALWAYS_SHOWN;
     let symbols = Places::new(alloc, part.image.symbols.as_slice())?;
     let mut recorder = Recorder::new(alloc, tracer, manner_of(part.image, &symbols))?;
-    put_events(alloc, &mut recorder, part, &symbols)?;
-    put_places(alloc, &mut recorder, part, &symbols)?;
-    let Recorder { tracer, json, .. } = recorder;
+    put_events(alloc, &mut recorder, part, &symbols, many)?;
+    let Recorder {
+        tracer,
+        mut told,
+        mut text,
+        ..
+    } = recorder;
+    put_places(alloc, &mut told, part, &symbols, &mut text)?;
     let picture = picture_of(alloc, tracer, part.journal)?;
-    whole(alloc, &picture, &json)
+    whole(alloc, &picture, &text, many)
 }
 
 /// How the lines of an image's board are made, by these symbols.
@@ -74,70 +105,85 @@ pub(crate) fn manner_of<'a>(image: &'a Image, symbols: &'a Places<'_>) -> Manner
     }
 }
 
-/// Puts at the end how the board stands, and the events up to the end of the part.
+/// Puts the events at the end up to that of the part. Where they are many they have a limit.
 fn put_events(
     alloc: Global,
     recorder: &mut Recorder,
     part: Part,
     symbols: &Places,
-) -> Result<(), PageFault> {
-    recorder.json.begin_object()?;
-    recorder.put_begin()?;
-    recorder.json.key("events")?;
-    recorder.json.begin_list()?;
-    for _ in recorder.playback.at..part.to {
+    many: bool,
+) -> Result<(), PageFault>
+    requires on { recorder.old.playback.at ≤ part.to }
+    requires within { part.to ≤ length part.journal.now.events }
+    requires both { recorder.old.tracer.playback.at ≡ recorder.old.playback.at }
+    ensures at { IfOk result (λ _. recorder.new.playback.at ≡ part.entry.to) }
+    ensures both { IfOk result (λ _. recorder.new.tracer.playback.at ≡ recorder.new.playback.at) }
+    ensures recorded { (boot : BoardOf) (from : ℕ) → IsOfRun boot part.entry.journal.now.events from recorder.old
+        → IfOk result (λ _. IsOfRun boot part.entry.journal.now.events from recorder.new) }
+    ensures refused { result ≡ Err TooMuch → many ≡ true }
+{
+    while recorder.playback.at < part.to {
         recorder.step(alloc, part, symbols)?;
-        if recorder.json.len() > MOST_BYTES {
+        if many && recorder.text.len() > MOST_BYTES {
             return Err(PageFault::TooMuch);
         }
     }
-    recorder.json.end_list()?;
     Ok(())
 }
 
-/// Puts the listing at the end, and the names of the words that were loaded or stored.
+/// Puts at the end what comes behind the events: the listing, and the names of the words that were loaded or stored.
 fn put_places(
     alloc: Global,
-    recorder: &mut Recorder,
+    told: &mut Told,
     part: Part,
     symbols: &Places,
-) -> Result<(), NoMemory> {
-    let json = &mut recorder.json;
-    recorder.places.sort()?;
-    recorder.places.dedup();
-    recorder.words.sort()?;
-    recorder.words.dedup();
+    text: &mut Json,
+) -> Result<(), NoMemory>
+    ensures { OnOk result (IsBehind IsAny text.old text.new) }
+{
+    told.places.sort()?;
+    told.places.dedup();
+    told.words.sort()?;
+    told.words.dedup();
+    let mut json = Json::new(alloc);
     json.key("listing")?;
     put_listing(
-        json,
+        &mut json,
         alloc,
         part.image,
         symbols,
         part.sources,
-        &recorder.places,
+        &told.places,
     )?;
     json.key("words")?;
-    put_names(json, alloc, symbols, &recorder.words)?;
-    json.end_object()
+    put_names(&mut json, alloc, symbols, &told.words)?;
+    text.end_with(&json)?;
+    Ok(())
 }
 
-/// The picture of a tracer's timeline of a journal.
-fn picture_of(alloc: Global, tracer: Tracer, journal: &Journal) -> Result<Vec<u8>, NoMemory> {
-    let mut picture = Vec::new(alloc);
+/// The picture of a tracer's timeline of a journal, or what stands in its place.
+fn picture_of(alloc: Global, tracer: Tracer, journal: &Journal) -> Result<Vec<u8>, NoMemory>
+    ensures { (boot : BoardOf) (events : ListOf EventOf) (from : ℕ) → IsPlayed boot events tracer.playback
+        → IsNoted boot events tracer.playback.at tracer.notes → begun_of tracer.notes ≡ Some from
+        → IfOk result (λ picture. IsDrawn boot events from tracer.playback.at picture.items) }
+{
     let Some(timeline) = tracer.into_timeline(alloc, journal)? else {
-        return Ok(picture);
+        return Ok(Vec::new(alloc));
     };
-    match svg(&timeline, &mut picture) {
-        Ok(()) => Ok(picture),
+    match draw(alloc, timeline) {
+        Ok(text) => Ok(text),
         Err(PictureFault::NoMemory) => Err(NoMemory),
         Err(PictureFault::TooMuch) => Ok(Vec::from_slice(alloc, NO_PICTURE.as_bytes())?),
     }
 }
 
-/// The page of a picture and of data.
-fn whole(alloc: Global, picture: &[u8], json: &Json) -> Result<Vec<u8>, PageFault>
-    ensures page { IfOk result (λ page. IsRunPage page.items) }
-    ensures bytes { IfOk result (λ page. length page.items ≤ most_bytes) }
+/// The page of a picture and of data. Where it shows many events it has a limit.
+fn whole(alloc: Global, picture: &[u8], json: &Json, many: bool) -> Result<Vec<u8>, PageFault>
+    ensures page { (boot : BoardOf) (events : ListOf EventOf) (from to : ℕ)
+        → IsDrawn boot events from to picture.now → IsData boot events from to json.now
+        → IfOk result (λ page. IsRunPage boot events from to page.items) }
+    ensures bytes { many ≡ true → IfOk result (λ page. length page.items ≤ most_bytes) }
+    ensures refused { result ≡ Err TooMuch → many ≡ true }
 {
     let page = joined(
         alloc,
@@ -147,7 +193,7 @@ fn whole(alloc: Global, picture: &[u8], json: &Json) -> Result<Vec<u8>, PageFaul
         json,
         REST.as_bytes(),
     )?;
-    if page.len() > MOST_BYTES {
+    if many && page.len() > MOST_BYTES {
         return Err(PageFault::TooMuch);
     }
     Ok(page)
@@ -162,7 +208,8 @@ fn joined(
     json: &Json,
     rest: &[u8],
 ) -> Result<Vec<u8>, NoMemory>
-    ensures { IfOk result (λ page. IsPage front.now middle.now rest.now page.items) }
+    ensures { IfOk result (λ page.
+        IsPage front.now picture.now middle.now json.now rest.now page.items) }
 {
     let text = json.as_slice();
     let page = chained(alloc, front, picture, middle, text, rest)?;

@@ -8,8 +8,8 @@ use Rattle.brd_printer.specs.Telling.{shown_by}
 use Rattle.brd_trace.specs.Recorded.{IsNoted}
 use Rattle.brd_trace.specs.Dated.{IsDated}
 use Rattle.brd_journal.specs.declared.playback.Playback.{Playback}
-use Rattle.brd_command.specs.TraceCommand.{KeepsFromAsking, IsPart, IsOfWriting, WritesSummary, WritesText, WritesTimeline, EndsDrawing, IsKnown}
-use Rattle.brd_command.proofs.TraceLemmas.{begins, json-ends, svg-ends, races-end, stacks-end, summary-ends, text-ends, not_asked, not_chosen}
+use Rattle.brd_command.specs.TraceCommand.{KeepsFromAsking, IsPart, IsOfWriting, WritesSummary, WritesText, WritesTimeline, EndsDrawing, EndsPaging, IsKnown}
+use Rattle.brd_command.proofs.TraceLemmas.{begins, html-ends, json-ends, svg-ends, races-end, stacks-end, summary-ends, text-ends, not_asked, not_chosen}
 use Rattle.brd_command.proofs.trace_command.write_trace.Goals as goal
 
 -- The part is that of the whole journal, the tracer has the board of the start, and it shows what the options ask for.
@@ -58,6 +58,17 @@ returns-in-Svg g c =
     (subst (λ (n : ℕ). IsPart c.args.options n c.in-Ok.part) c.len.ensures.len c.in-Ok.ensures) c.in-Svg.is c.if-options.false c.if-options-2.false c.if-options-3.false
     (subst (λ (b : BoardState). EndsDrawing c.write_svg.result b start.journal.events c.in-Ok.part.from c.in-Ok.part.to old new)
     (ap (λ p. p.board) c.in_ok-tracer.ensures.start) c.write_svg.ensures)
+
+-- The page is that of the part, on the board of the start.
+pub returns-in-Html : goal.returns-in-Html
+returns-in-Html g c =
+    let start = c.args.start in
+    let old = g.W.Write.contents c.args.writer.now in
+    let new = g.W.Write.contents c.write_html.new.writer in
+    html-ends start c.args.options c.in-Ok.part old new c.write_html.result
+    (subst (λ (n : ℕ). IsPart c.args.options n c.in-Ok.part) c.len.ensures.len c.in-Ok.ensures) c.in-Html.is c.if-options.false c.if-options-2.false c.if-options-3.false
+    (subst (λ (b : BoardState). EndsPaging c.write_html.result b start.journal.events c.in-Ok.part.from c.in-Ok.part.to old new)
+    (ap (λ p. p.board) c.in_ok-tracer.ensures.start) c.write_html.ensures)
 
 -- The options give no part of the journal, or name no words.
 pub returns-in-Err : goal.returns-in-Err
@@ -127,5 +138,10 @@ write_json-requires-clause-knows g c =
 
 pub write_svg-requires-clause-knows : goal.write_svg-requires-clause-knows
 write_svg-requires-clause-knows g c =
+    known c.args.start.board c.args.start.journal.events c.in_ok-tracer.tracer c.in_ok-tracer.ensures.start
+    (c.in_ok-tracer.ensures.noted c.args.start.journal.events)
+
+pub write_html-requires-clause-knows : goal.write_html-requires-clause-knows
+write_html-requires-clause-knows g c =
     known c.args.start.board c.args.start.journal.events c.in_ok-tracer.tracer c.in_ok-tracer.ensures.start
     (c.in_ok-tracer.ensures.noted c.args.start.journal.events)

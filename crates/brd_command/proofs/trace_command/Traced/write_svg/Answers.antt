@@ -1,5 +1,5 @@
 use Rattle.std.proofs.Common.{sym, subst}
-use Rattle.brd_command.specs.TraceCommand.{IsPicture}
+use Rattle.brd_page.specs.Picture.{IsPicture}
 use Rattle.brd_command.proofs.TraceLemmas.{drawing-ends}
 use Rattle.brd_command.proofs.trace_command.Traced.write_svg.Goals as goal
 
@@ -9,11 +9,7 @@ returns-in-Ok g c =
     let boot = c.args.tracer.playback.board in
     let events = c.args.self.now.journal.now.events in
     let part = c.args.self.now.part in
-    let picture : IsPicture boot events part.from part.to c.svg.new.to.items = record {
-      timeline = c.in_ok-timeline.timeline;
-      are_slices = c.in_ok-timeline.ensures;
-      bars = c.in-Ok.ensures.slices;
-      ends = c.in-Ok.ensures.ends;
-    } in
     drawing-ends boot events part.from part.to c.deref.result.now (g.W.Write.contents c.args.writer.now) (g.W.Write.contents c.written.new.writer)
-    c.written.result (subst (IsPicture boot events part.from part.to) (sym c.deref.ensures.value) picture) c.written.ensures
+    c.written.result
+    (subst (IsPicture boot events part.from part.to) (sym c.deref.ensures.value) (c.in-Ok.ensures boot events part.from part.to c.in_ok-timeline.ensures))
+    c.written.ensures
