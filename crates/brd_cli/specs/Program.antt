@@ -1,19 +1,26 @@
 -- How the program ends on the words of its command line, of which the first is its name: on files, standard input and
--- standard output, each before and after the program. `opened` to `written` are as in brd_command/specs/Request.antt.
-use Rattle.std.specs.Prelude.{◌≡◌, ℕ, List, Option, Result, Ok, Err}
+-- standard output, each before and after the program. `opened` to `written` are as in brd_data/specs/Performing.antt.
+use Rattle.std.specs.Prelude.{◌≡◌, ℕ, List, map, Option, Result, Ok, Err}
 use Rattle.std.specs.declared.io.Error.{Error}
 use Rattle.clap.specs.Words.{Text}
-use Rattle.brd_command.specs.Request.{RequestEnds}
-use Rattle.brd_inputs.specs.declared.fault.CommandFault.{CommandFault}
-use Rattle.brd_command.specs.declared.request.Request.{Request}
+use Rattle.brd_data.specs.Performing.{EndsWithData}
+use Rattle.brd_data.specs.declared.fault.DataFault.{DataFault}
+use Rattle.brd_data.specs.declared.fault.DataFault.TheVariants as laying
+use Rattle.brd_data.specs.declared.laid.Laid.{Laid}
 use Rattle.brd_cli.specs.Requests.{IsAnswer}
 use Rattle.brd_cli.specs.declared.end.EarlyEnd.{EarlyEnd}
-use Rattle.brd_cli.specs.declared.end.EarlyEnd.TheVariants.{Fault}
+use Rattle.brd_cli.specs.declared.end.EarlyEnd.TheVariants.{Data, Fault}
+use Rattle.brd_cli.specs.declared.request.Asked.{Asked}
+
+-- the fault of a command, or of its data
+abbrev pub of_fault : DataFault → EarlyEnd
+of_fault (laying.Command fault) = Fault fault
+of_fault fault = Data fault
 
 -- the program's end, from its command's
-abbrev pub stop_of : Result Unit CommandFault → Result Unit EarlyEnd
+abbrev pub stop_of : Result Unit DataFault → Result Unit EarlyEnd
 stop_of (Ok done) = Ok done
-stop_of (Err fault) = Err (Fault fault)
+stop_of (Err fault) = Err (of_fault fault)
 
 -- The words were refused or ask for help, or memory ran out before they were read, and then nothing is touched; or what
 -- they ask for is done, and how that ends is the program's end.
@@ -21,15 +28,15 @@ pub data ProgramEnds {F I O R W : Type 0}
     (opened : F → List ℕ → Result I Error → F → Type 0) (created : F → List ℕ → Result O Error → F → Type 0)
     (closed : F → O → F → Type 0) (remaining : I → Option (List ℕ)) (contents : O → Option (List ℕ))
     (unread : R → Option (List ℕ)) (written : W → Option (List ℕ))
-    (words : List Text) (files_old files : F) (input_old input : R) (output_old output : W)
+    (words : List Text) (files_old files : Laid F) (input_old input : R) (output_old output : W)
     (result : Result Unit EarlyEnd) : Type 0 where
   not_asked : {stop : EarlyEnd} → IsAnswer words (Err stop) → result ≡ Err stop →
       files ≡ files_old → input ≡ input_old → output ≡ output_old →
       ProgramEnds opened created closed remaining contents unread written
       words files_old files input_old input output_old output result
-  asked : (request : Request) (end : Result Unit CommandFault) → IsAnswer words (Ok request) →
-      RequestEnds opened created closed remaining contents unread written
-      request files_old files input_old input output_old output end →
+  asked : (it : Asked) (end : Result Unit DataFault) → IsAnswer words (Ok it) →
+      EndsWithData opened created closed remaining contents unread written
+      it.request (map (λ text. text.now) it.texts.items) files_old files input_old input output_old output end →
       result ≡ stop_of end →
       ProgramEnds opened created closed remaining contents unread written
       words files_old files input_old input output_old output result

@@ -1,10 +1,10 @@
 -- What a command line asks for: the request of a command's name and of what was given for its arguments, which `clap`
 -- keeps in rows.
 use Rattle.std.specs.Prelude.{◌≡◌, ◌∷◌, ◌⊎◌, ℕ, ⊤, List, [], Bool, true, false, if◌then◌else◌, Option, None, Some}
-use Rattle.std.specs.Prelude.{Result, Ok, Err, codes, bytes_eq, option_map, unwrap_or}
+use Rattle.std.specs.Prelude.{Result, Ok, Err, codes, bytes_eq, map, option_map, unwrap_or}
 use Rattle.std.specs.Bool.{MatchBool}
 use Rattle.std.specs.Str.Parse.{ParsesUnsigned}
-use Rattle.clap.specs.Words.{IsAmong, Row, Text, fault_of, first_of, kind_of, one_of, subcommand_of}
+use Rattle.clap.specs.Words.{IsAmong, Row, Text, all_of, fault_of, first_of, kind_of, one_of, subcommand_of}
 use Rattle.clap.specs.declared.error.kind.ErrorKind.TheVariants.{MissingSubcommand}
 use Rattle.brd_inputs.specs.declared.fault.CommandFault.TheVariants.{NoMemory}
 use Rattle.brd_word.specs.declared.order.Order.{Order}
@@ -21,7 +21,8 @@ use Rattle.brd_search.specs.declared.options.SearchOptions.{SearchOptions}
 use Rattle.brd_search.specs.declared.options.Sizes.{Sizes}
 use Rattle.brd_try.specs.declared.options.TryOptions.{TryOptions}
 use Rattle.brd_cli.specs.declared.end.EarlyEnd.{EarlyEnd}
-use Rattle.brd_cli.specs.declared.end.EarlyEnd.TheVariants.{Fault, Usage}
+use Rattle.brd_cli.specs.declared.end.EarlyEnd.TheVariants.{Data, Fault, Usage}
+use Rattle.brd_cli.specs.declared.request.Asked.{Asked}
 use Rattle.brd_cli.specs.Usage.{board, inputs, pair, race_files, source_and_out}
 
 -- ---- what was given
@@ -219,14 +220,21 @@ abbrev pub IsAsked : Option (Text × List Row) → Option Request → Type 0
 IsAsked None request = request ≡ None
 IsAsked (Some found) request = IsRequestOf found.0 found.1 request
 
+-- the texts that are given for data
+abbrev pub data_in : Option (Text × List Row) → List Text
+data_in None = []
+data_in (Some found) = unwrap_or (all_of (codes "DATA") found.1) []
+
 -- ---- command lines
 
 -- What the words of a command line come to, of which the first is the program's name: what the command that they name
--- asks for, where nothing is wrong with them; else one of the faults of the first step that fails, or lack of memory.
+-- asks for, with its data, where nothing is wrong with them; else one of the faults of the first step that fails, or lack of memory.
 -- The last case is for words that pass though the command or an argument is missing, which none are known to do.
-abbrev pub IsAnswer : List Text → Result Request EarlyEnd → Type 0
-IsAnswer words (Ok request) = (fault_of board words ≡ []) × IsAsked (subcommand_of board words) (Some request)
+abbrev pub IsAnswer : List Text → Result Asked EarlyEnd → Type 0
+IsAnswer words (Ok asked) = (fault_of board words ≡ []) × IsAsked (subcommand_of board words) (Some asked.request)
+    × (map (λ text. text.now) asked.texts.items ≡ data_in (subcommand_of board words))
 IsAnswer words (Err (Fault fault)) = fault ≡ NoMemory
+IsAnswer words (Err (Data fault)) = ⊥
 IsAnswer words (Err (Usage error)) =
     IsAmong (kind_of error) (fault_of board words)
     ⊎ ((kind_of error ≡ MissingSubcommand) × IsAsked (subcommand_of board words) None)

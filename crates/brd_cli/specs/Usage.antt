@@ -2,7 +2,7 @@
 use Rattle.std.specs.Prelude.{◌≡◌, ◌∷◌, ◌++◌, List, [], Ok, Result, Some, codes, false, fold, map, pos, true}
 use Rattle.brd_base.specs.declared.no_memory.NoMemory.{NoMemory}
 use Rattle.clap.specs.Words.{AddsSubcommand, App, Rule, Text, app_of, new_app, new_rule, with_rule, with_subcommand}
-use Rattle.clap.specs.declared.builder.action.ArgAction.TheVariants.{Set, SetTrue}
+use Rattle.clap.specs.declared.builder.action.ArgAction.TheVariants.{Append, Set, SetTrue}
 use Rattle.clap.specs.declared.builder.command.Command.{Command, out-Command}
 use Rattle.clap.specs.declared.builder.value_parser.ValueParser.TheVariants.{Signed, Unsigned}
 
@@ -35,6 +35,10 @@ option name flag = record (new_rule name) { long = Some flag; action = Some Set 
 abbrev pub count : Text → Text → Rule
 count name flag = record (option name flag) { parser = Some (Signed (pos 0) (pos 4294967295)) }
 
+-- the option for data, which may be given any number of times
+abbrev pub data_option : Rule
+data_option = record (new_rule (codes "DATA")) { long = Some (codes "data"); action = Some Append }
+
 -- the files that `asm` takes, those that `run`, `debug`, `gdb`, `trace` and `shrink` take, those that `explore` takes, and
 -- those that `race` takes beside its quota
 abbrev pub source_and_out : List Text
@@ -53,6 +57,10 @@ race_files = codes "IMAGE" ∷ codes "CONFIG" ∷ codes "SCRIPT" ∷ codes "OUT"
 abbrev pub command_with : Text → List Rule → App
 command_with name arguments = fold with_rule (new_app name) arguments
 
+-- a command that takes IMAGE, CONFIG and JOURNAL, and data
+abbrev pub with_inputs : Text → App
+with_inputs name = command_with name (map needed inputs ++ data_option ∷ [])
+
 -- a program of which one of its commands has to be named, and which says its version
 abbrev pub wants_command : App → App
 wants_command program = record program { top = record program.top { subcommand_required = true; has_version = true } }
@@ -70,24 +78,24 @@ abbrev pub tries : App
 tries = command_with (codes "try")
     (needed (codes "SOURCE") ∷ count (codes "STEPS") (codes "steps") ∷ count (codes "CPUS") (codes "cpus")
     ∷ count (codes "INTERVAL") (codes "tick-every") ∷ option (codes "NAME") (codes "keep")
-    ∷ option (codes "FILE") (codes "page") ∷ [])
+    ∷ option (codes "FILE") (codes "page") ∷ data_option ∷ [])
 
 abbrev pub asm : App
 asm = command_with (codes "asm") (map needed source_and_out)
 
 abbrev pub run : App
-run = command_with (codes "run") (map needed inputs)
+run = with_inputs (codes "run")
 
 abbrev pub race : App
 race = command_with (codes "race")
     (needed (codes "IMAGE") ∷ needed (codes "CONFIG") ∷ needed (codes "SCRIPT") ∷ number (codes "QUOTA")
-    ∷ needed (codes "OUT") ∷ [])
+    ∷ needed (codes "OUT") ∷ data_option ∷ [])
 
 abbrev pub debug : App
-debug = command_with (codes "debug") (map needed inputs)
+debug = with_inputs (codes "debug")
 
 abbrev pub gdb : App
-gdb = command_with (codes "gdb") (map needed inputs)
+gdb = with_inputs (codes "gdb")
 
 -- `trace` takes its options before, between or after its files
 abbrev pub trace : App
@@ -95,7 +103,7 @@ trace = command_with (codes "trace")
     (needed (codes "IMAGE") ∷ needed (codes "CONFIG") ∷ needed (codes "JOURNAL")
     ∷ position (codes "from") ∷ position (codes "to") ∷ processor (codes "cpu")
     ∷ flag (codes "instructions") ∷ option (codes "WORDS") (codes "word") ∷ flag (codes "summary")
-    ∷ flag (codes "races") ∷ flag (codes "stacks") ∷ valued (codes "format") ∷ [])
+    ∷ flag (codes "races") ∷ flag (codes "stacks") ∷ valued (codes "format") ∷ data_option ∷ [])
 
 abbrev pub journal : App
 journal = command_with (codes "journal")
@@ -121,14 +129,14 @@ checks =
 abbrev pub searching : List Rule
 searching =
     flag (codes "shortest") ∷ option (codes "SHARD") (codes "shard") ∷ count (codes "MIB") (codes "remember")
-    ∷ count (codes "PLACES") (codes "places") ∷ option (codes "OUT") (codes "out") ∷ []
+    ∷ count (codes "PLACES") (codes "places") ∷ option (codes "OUT") (codes "out") ∷ data_option ∷ []
 
 -- `explore` and `shrink` take their options before, between or after their files
 abbrev pub explore : App
 explore = command_with (codes "explore") (map needed pair ++ bounds ++ checks ++ searching)
 
 abbrev pub shrink : App
-shrink = command_with (codes "shrink") (map needed inputs ++ checks ++ option (codes "OUT") (codes "out") ∷ [])
+shrink = command_with (codes "shrink") (map needed inputs ++ checks ++ option (codes "OUT") (codes "out") ∷ data_option ∷ [])
 
 -- the commands in the order in which a newcomer meets them
 abbrev pub board : App

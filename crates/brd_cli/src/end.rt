@@ -5,6 +5,7 @@ ghost use Rattle.std.specs.Process.{exit_status};
 ghost use Rattle.brd_cli.specs.End.{status_of_usage, status_of_end, IsEarlyEndOf, IsWantOfMemory};
 
 use brd_base::NoMemory;
+use brd_data::DataFault;
 use brd_inputs::CommandFault;
 use clap::error::ErrorKind;
 use std::process::ExitCode;
@@ -14,6 +15,8 @@ use std::process::ExitCode;
 pub enum EarlyEnd {
     /// The command has a fault, or the command line couldn't be taken.
     Fault(CommandFault),
+    /// Its data has a fault.
+    Data(DataFault),
     /// The command line is wrong, or asks for help.
     Usage(clap::Error),
 }
@@ -54,6 +57,7 @@ pub fn exit_code(end: &Result<(), EarlyEnd>) -> ExitCode
     let status = match end {
         Ok(()) => 0,
         Err(EarlyEnd::Fault(fault)) => fault.status(),
+        Err(EarlyEnd::Data(fault)) => fault.status(),
         Err(EarlyEnd::Usage(error)) => usage_status(error.kind()),
     };
     ExitCode::from(status)

@@ -1,11 +1,13 @@
 //! What the program does, on files and streams.
 
-ghost use Rattle.std.specs.Prelude.{map};
+ghost use Rattle.std.specs.Prelude.{◌≡◌, map};
+ghost use Rattle.brd_cli.specs.Program as program;
 ghost use Rattle.brd_cli.specs.Program.{ProgramEnds};
 
 use crate::end::EarlyEnd;
 use crate::request::asked;
-use brd_command::{Files, Progress, perform};
+use brd_command::{Files, Progress};
+use brd_data::{DataFault, Laid, perform_with_data};
 use std::alloc::Global;
 use std::convert::AsStr;
 use std::io::{Read, Write};
@@ -26,7 +28,7 @@ pub fn carry_out<
     rt: &T,
     alloc: Global,
     words: &[S],
-    files: &mut F,
+    files: &mut Laid<F>,
     input: &mut R,
     output: &mut W,
     progress: &mut P,
@@ -34,12 +36,31 @@ pub fn carry_out<
     ensures { ProgramEnds F.opened F.created F.closed F.Input.remaining F.Output.contents R.remaining W.contents
         (map S.text words.entry.now) files.old files.new input.old input.new output.old output.new result }
 {
-    let request = match asked(alloc, words) {
-        Ok(request) => request,
+    let asked = match asked(alloc, words) {
+        Ok(asked) => asked,
         Err(stop) => return Err(stop),
     };
-    match perform(rt, alloc, files, input, output, progress, request) {
+    match perform_with_data(
+        rt,
+        alloc,
+        files,
+        input,
+        output,
+        progress,
+        asked.request,
+        &asked.texts,
+    ) {
         Ok(()) => Ok(()),
-        Err(fault) => Err(EarlyEnd::Fault(fault)),
+        Err(fault) => Err(of_fault(fault)),
+    }
+}
+
+/// The fault of a command, or of its data.
+fn of_fault(fault: DataFault) -> EarlyEnd
+    ensures { result ≡ program.of_fault fault }
+{
+    match fault {
+        DataFault::Command(fault) => EarlyEnd::Fault(fault),
+        _ => EarlyEnd::Data(fault),
     }
 }

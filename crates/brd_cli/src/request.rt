@@ -1,9 +1,10 @@
 //! What a command line asks for.
 
-ghost use Rattle.std.specs.Prelude.{◌≡◌, ◌∷◌, [], IfOk, codes, map, option_map};
-ghost use Rattle.clap.specs.Words.{app_of, first_of, found_of, kind_of, one_of, rows_of, subcommand_rows_of};
+ghost use Rattle.std.specs.Prelude.{◌≡◌, ◌∷◌, [], IfOk, codes, map, option_map, unwrap_or};
+ghost use Rattle.clap.specs.Words.{all_of, app_of, first_of, found_of, kind_of, one_of, rows_of, subcommand_rows_of};
 ghost use Rattle.clap.specs.declared.error.kind.ErrorKind.TheVariants.{MissingSubcommand};
 ghost use Rattle.brd_cli.specs.Requests.{AreJournalOptions, AreTraceOptions, AreTryOptions, IsAnswer, IsAsked};
+ghost use Rattle.brd_cli.specs.Requests.{data_in};
 ghost use Rattle.brd_cli.specs.Requests.{IsJournal, IsNumber};
 ghost use Rattle.brd_cli.specs.Requests.{IsNumberOf};
 ghost use Rattle.brd_cli.specs.Requests.{AreLooks, AreSearchOptions, AreSizes, IsExplore, IsNumberOr, IsShrink, IsTry};
@@ -23,23 +24,65 @@ use clap::{ArgMatches, Command};
 use std::alloc::Global;
 use std::convert::AsStr;
 
+/// What is asked for.
+#[derive(Drop)]
+pub struct Asked<'a> {
+    /// The request.
+    pub request: Request<'a>,
+    /// The texts of its data.
+    pub texts: Vec<&'a str>,
+}
+
 /// What the words of a command line ask for, of which the first is the program's name.
-pub fn asked<'a, S: AsStr>(alloc: Global, words: &'a [S]) -> Result<Request<'a>, EarlyEnd>
+pub fn asked<'a, S: AsStr>(alloc: Global, words: &'a [S]) -> Result<Asked<'a>, EarlyEnd>
     ensures { IsAnswer (map S.text words.entry.now) result }
 {
     let mut board = board_command(alloc)?;
-    asked_of(&mut board, words)
+    asked_of(alloc, &mut board, words)
 }
 
 /// What the words of a command line ask the program for.
-fn asked_of<'a, S: AsStr>(board: &mut Command<'a>, words: &'a [S]) -> Result<Request<'a>, EarlyEnd>
+fn asked_of<'a, S: AsStr>(
+    alloc: Global,
+    board: &mut Command<'a>,
+    words: &'a [S],
+) -> Result<Asked<'a>, EarlyEnd>
     ensures { app_of board.old ≡ usage.board → IsAnswer (map S.text words.entry.now) result }
 {
     let matches = board.try_get_matches_from_mut(words)?;
     if let Some(request) = request_of(&matches) {
-        return Ok(request);
+        let texts = data_of(alloc, &matches)?;
+        return Ok(Asked { request, texts });
     }
     Err(EarlyEnd::from(missing(board)?))
+}
+
+/// The data that the matches of a command line name.
+fn data_of<'a>(alloc: Global, matches: &ArgMatches<'a>) -> Result<Vec<&'a str>, NoMemory>
+    ensures { IfOk result (λ texts. map (λ text. text.now) texts.items ≡ data_in (subcommand_rows_of matches.now)) }
+{
+    match matches.subcommand() {
+        None => Ok(Vec::new(alloc)),
+        Some((_, arguments)) => texts_of(alloc, arguments, "DATA"),
+    }
+}
+
+/// All that was given for an argument.
+fn texts_of<'a>(
+    alloc: Global,
+    arguments: &ArgMatches<'a>,
+    name: &str,
+) -> Result<Vec<&'a str>, NoMemory>
+    ensures { IfOk result (λ texts. map (λ text. text.now) texts.items
+        ≡ unwrap_or (all_of name.now (rows_of (found_of arguments.now))) []) }
+{
+    match arguments.get_strs(name) {
+        None => Ok(Vec::new(alloc)),
+        Some(texts) => {
+            let all = Vec::from_slice(alloc, texts)?;
+            Ok(all)
+        }
+    }
 }
 
 /// What is wrong with a command line that has no command.

@@ -1,10 +1,9 @@
 //! The command line that the program takes.
 
-ghost use Rattle.std.specs.Prelude.{◌≡◌, ◌∷◌, [], IfOk, codes, false, map};
+ghost use Rattle.std.specs.Prelude.{◌≡◌, IfOk, false};
 ghost use Rattle.clap.specs.Words.{app_of, rule_of};
 ghost use Rattle.brd_cli.specs.Usage as usage;
-ghost use Rattle.brd_cli.specs.Usage.{AddsArguments, AddsForm, HasAdded, board, command_with, inputs, race_files};
-ghost use Rattle.brd_cli.specs.Usage.{source_and_out};
+ghost use Rattle.brd_cli.specs.Usage.{AddsArguments, AddsForm, HasAdded, board};
 
 use brd_base::NoMemory;
 use clap::{Arg, ArgAction, Command};
@@ -239,7 +238,8 @@ fn try_command<'a>(alloc: Global) -> Result<Command<'a>, NoMemory>
             "FILE",
             "page",
             "Where a page for a browser goes, of each step",
-        ))?;
+        ))?
+        .arg(data_option(alloc))?;
     Ok(command)
 }
 
@@ -296,7 +296,8 @@ fn race_command<'a>(alloc: Global) -> Result<Command<'a>, NoMemory>
             "QUOTA",
             "How many steps each processor does unless the board goes off, 0 to 1,000,000",
         ))?
-        .arg(needed(alloc, "OUT", "Where the journal goes"))?;
+        .arg(needed(alloc, "OUT", "Where the journal goes"))?
+        .arg(data_option(alloc))?;
     Ok(command)
 }
 
@@ -369,7 +370,8 @@ fn trace_command<'a>(alloc: Global) -> Result<Command<'a>, NoMemory>
             "FORMAT",
             "text, as if it weren't given; json, for Perfetto; svg, a picture; html, a page for a browser; lcov or \
              callgrind, counts for these tools",
-        ))?;
+        ))?
+        .arg(data_option(alloc))?;
     Ok(command)
 }
 
@@ -553,7 +555,8 @@ fn with_search<'a>(alloc: Global, command: Command<'a>) -> Result<Command<'a>, N
             "OUT",
             "out",
             "Where the journal of a schedule that fails goes",
-        ))?;
+        ))?
+        .arg(data_option(alloc))?;
     Ok(command)
 }
 
@@ -572,12 +575,14 @@ fn shrink_command<'a>(alloc: Global) -> Result<Command<'a>, NoMemory>
             "A journal that fails, of at most 1,000,000 events",
         ))?;
     let checked = with_checks(alloc, command)?;
-    let whole = checked.arg(option(
-        alloc,
-        "OUT",
-        "out",
-        "Where the journal of what is left goes",
-    ))?;
+    let whole = checked
+        .arg(option(
+            alloc,
+            "OUT",
+            "out",
+            "Where the journal of what is left goes",
+        ))?
+        .arg(data_option(alloc))?;
     Ok(whole)
 }
 
@@ -627,7 +632,7 @@ fn with_inputs<'a>(
     about: &'a str,
     after_help: &'a str,
 ) -> Result<Command<'a>, NoMemory>
-    ensures { IfOk result (AddsForm (command_with name.entry.now (map usage.needed inputs))) }
+    ensures { IfOk result (AddsForm (usage.with_inputs name.entry.now)) }
 {
     let command = Command::new(alloc, name)
         .about(about)
@@ -638,7 +643,8 @@ fn with_inputs<'a>(
             alloc,
             "JOURNAL",
             "A journal: the events that the board does",
-        ))?;
+        ))?
+        .arg(data_option(alloc))?;
     Ok(command)
 }
 
@@ -667,6 +673,19 @@ fn option<'a>(alloc: Global, name: &'a str, flag: &'a str, help: &'a str) -> Arg
         .long(flag)
         .action(ArgAction::Set)
         .help(help)
+}
+
+/// The option for data, which may be given any number of times.
+fn data_option<'a>(alloc: Global) -> Arg<'a>
+    ensures rule { rule_of result ≡ usage.data_option }
+    ensures own { result.global ≡ false }
+{
+    Arg::new(alloc, "DATA")
+        .long("data")
+        .action(ArgAction::Append)
+        .help(
+            "Puts a file's bytes into memory, as buffer=FILE or 0x80001000=FILE; any number of times",
+        )
 }
 
 /// An argument that has to be given, with one value.

@@ -1,16 +1,17 @@
 use Rattle.std.proofs.Common.{List, Err, Ok, Result, map}
 use Rattle.std.specs.Result.{IsErrAnd}
 use Rattle.clap.specs.Words.{Text}
-use Rattle.brd_command.specs.declared.request.Request.{Request}
 use Rattle.brd_cli.specs.End.{IsWantOfMemory}
 use Rattle.brd_cli.specs.Requests.{IsAnswer}
 use Rattle.brd_cli.specs.declared.end.EarlyEnd.{EarlyEnd}
-use Rattle.brd_cli.specs.declared.end.EarlyEnd.TheVariants.{Fault, Usage}
+use Rattle.brd_cli.specs.declared.end.EarlyEnd.TheVariants.{Data, Fault, Usage}
+use Rattle.brd_cli.specs.declared.request.Asked.{Asked}
 use Rattle.brd_cli.proofs.request.asked.Goals as goal
 
-out_of_memory : (words : List Text) (result : Result Request EarlyEnd) → IsErrAnd result IsWantOfMemory → IsAnswer words result
-out_of_memory words (Ok request) is = absurd is
+out_of_memory : (words : List Text) (result : Result Asked EarlyEnd) → IsErrAnd result IsWantOfMemory → IsAnswer words result
+out_of_memory words (Ok it) is = absurd is
 out_of_memory words (Err (Fault fault)) is = cc
+out_of_memory words (Err (Data fault)) is = cc
 out_of_memory words (Err (Usage error)) is = cc
 
 pub returns-in_err-board : goal.returns-in_err-board

@@ -12,7 +12,8 @@ returns c = λ old new adds.
     let with_2 = c.in_ok-arg-2.ensures.shape c.needed-2.ensures.own ∙ ap₂ with_rule with_1 c.needed-2.ensures.rule in
     let with_3 = c.in_ok-command.ensures.shape c.needed-3.ensures.own ∙ ap₂ with_rule with_2 c.needed-3.ensures.rule in
     let checked = c.in_ok-checked.ensures.shape ∙ ap (λ (form : App). fold with_rule form checks) with_3 in
-    let whole = c.in_ok-whole.ensures.shape c.option.ensures.own ∙ ap₂ with_rule checked c.option.ensures.rule in
+    let told = c.in_ok-arg-3.ensures.shape c.option.ensures.own ∙ ap₂ with_rule checked c.option.ensures.rule in
+    let whole = c.in_ok-whole.ensures.shape c.data_option.ensures.own ∙ ap₂ with_rule told c.data_option.ensures.rule in
     let local : (out-Command c.in_ok-command.command).has_globals ≡ false = rw (
       c.in_ok-command.ensures.globals,
       c.needed-3.ensures.own,
@@ -26,6 +27,8 @@ returns c = λ old new adds.
     ) refl in
     adds.shape (rw (
       c.in_ok-whole.ensures.globals,
+      c.data_option.ensures.own,
+      c.in_ok-arg-3.ensures.globals,
       c.option.ensures.own,
       c.in_ok-checked.ensures.globals local,
     ) refl)

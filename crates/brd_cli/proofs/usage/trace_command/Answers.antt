@@ -5,20 +5,23 @@ use Rattle.brd_cli.proofs.usage.trace_command.Goals as goal
 pub returns : goal.returns
 returns c = λ old new adds.
     let none : app_of c.after_help.result ≡ new_app (codes "trace") = rw c.after_help.ensures (rw c.about.ensures c.new.ensures.app) in
-    let one = c.in_ok-arg.ensures.shape c.needed.ensures.own ∙ ap₂ with_rule none c.needed.ensures.rule in
-    let two = c.in_ok-arg-2.ensures.shape c.needed-2.ensures.own ∙ ap₂ with_rule one c.needed-2.ensures.rule in
-    let three = c.in_ok-arg-3.ensures.shape c.needed-3.ensures.own ∙ ap₂ with_rule two c.needed-3.ensures.rule in
-    let four = c.in_ok-arg-4.ensures.shape c.position.ensures.own ∙ ap₂ with_rule three c.position.ensures.rule in
-    let five = c.in_ok-arg-5.ensures.shape c.position-2.ensures.own ∙ ap₂ with_rule four c.position-2.ensures.rule in
-    let six = c.in_ok-arg-6.ensures.shape c.processor.ensures.own ∙ ap₂ with_rule five c.processor.ensures.rule in
-    let seven = c.in_ok-arg-7.ensures.shape c.flag.ensures.own ∙ ap₂ with_rule six c.flag.ensures.rule in
-    let eight = c.in_ok-arg-8.ensures.shape c.option.ensures.own ∙ ap₂ with_rule seven c.option.ensures.rule in
-    let nine = c.in_ok-arg-9.ensures.shape c.flag-2.ensures.own ∙ ap₂ with_rule eight c.flag-2.ensures.rule in
-    let ten = c.in_ok-arg-10.ensures.shape c.flag-3.ensures.own ∙ ap₂ with_rule nine c.flag-3.ensures.rule in
-    let eleven = c.in_ok-arg-11.ensures.shape c.flag-4.ensures.own ∙ ap₂ with_rule ten c.flag-4.ensures.rule in
-    let twelve = c.in_ok-command.ensures.shape c.valued.ensures.own ∙ ap₂ with_rule eleven c.valued.ensures.rule in
+    let with_1 = c.in_ok-arg.ensures.shape c.needed.ensures.own ∙ ap₂ with_rule none c.needed.ensures.rule in
+    let with_2 = c.in_ok-arg-2.ensures.shape c.needed-2.ensures.own ∙ ap₂ with_rule with_1 c.needed-2.ensures.rule in
+    let with_3 = c.in_ok-arg-3.ensures.shape c.needed-3.ensures.own ∙ ap₂ with_rule with_2 c.needed-3.ensures.rule in
+    let with_4 = c.in_ok-arg-4.ensures.shape c.position.ensures.own ∙ ap₂ with_rule with_3 c.position.ensures.rule in
+    let with_5 = c.in_ok-arg-5.ensures.shape c.position-2.ensures.own ∙ ap₂ with_rule with_4 c.position-2.ensures.rule in
+    let with_6 = c.in_ok-arg-6.ensures.shape c.processor.ensures.own ∙ ap₂ with_rule with_5 c.processor.ensures.rule in
+    let with_7 = c.in_ok-arg-7.ensures.shape c.flag.ensures.own ∙ ap₂ with_rule with_6 c.flag.ensures.rule in
+    let with_8 = c.in_ok-arg-8.ensures.shape c.option.ensures.own ∙ ap₂ with_rule with_7 c.option.ensures.rule in
+    let with_9 = c.in_ok-arg-9.ensures.shape c.flag-2.ensures.own ∙ ap₂ with_rule with_8 c.flag-2.ensures.rule in
+    let with_10 = c.in_ok-arg-10.ensures.shape c.flag-3.ensures.own ∙ ap₂ with_rule with_9 c.flag-3.ensures.rule in
+    let with_11 = c.in_ok-arg-11.ensures.shape c.flag-4.ensures.own ∙ ap₂ with_rule with_10 c.flag-4.ensures.rule in
+    let with_12 = c.in_ok-arg-12.ensures.shape c.valued.ensures.own ∙ ap₂ with_rule with_11 c.valued.ensures.rule in
+    let with_13 = c.in_ok-command.ensures.shape c.data_option.ensures.own ∙ ap₂ with_rule with_12 c.data_option.ensures.rule in
     adds.shape (rw (
       c.in_ok-command.ensures.globals,
+      c.data_option.ensures.own,
+      c.in_ok-arg-12.ensures.globals,
       c.valued.ensures.own,
       c.in_ok-arg-11.ensures.globals,
       c.flag-4.ensures.own,
@@ -46,4 +49,4 @@ returns c = λ old new adds.
       c.about.ensures,
       c.new.ensures.local,
     ) refl)
-    ∙ ap (λ (form : App). with_subcommand (app_of old) form.top) twelve
+    ∙ ap (λ (form : App). with_subcommand (app_of old) form.top) with_13

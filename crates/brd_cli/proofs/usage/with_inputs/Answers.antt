@@ -1,11 +1,25 @@
-use Rattle.std.proofs.Common.{◌∙◌, ◌≡◌, ap, ap₂, rules}
+use Rattle.std.proofs.Common.{◌∙◌, ◌≡◌, ap, ap₂, refl}
 use Rattle.clap.specs.Words.{App, app_of, new_app, with_rule, with_subcommand}
 use Rattle.brd_cli.proofs.usage.with_inputs.Goals as goal
 
 pub returns : goal.returns
 returns c = λ old new adds.
     let none : app_of c.after_help.result ≡ new_app c.args.name.now = rw c.after_help.ensures (rw c.about.ensures c.new.ensures.app) in
-    let one = c.in_ok-arg.ensures.shape c.needed.ensures.own ∙ ap₂ with_rule none c.needed.ensures.rule in
-    let two = c.in_ok-arg-2.ensures.shape c.needed-2.ensures.own ∙ ap₂ with_rule one c.needed-2.ensures.rule in
-    let three = c.in_ok-command.ensures.shape c.needed-3.ensures.own ∙ ap₂ with_rule two c.needed-3.ensures.rule in
-    adds.shape (search rules) ∙ ap (λ (form : App). with_subcommand (app_of old) form.top) three
+    let with_1 = c.in_ok-arg.ensures.shape c.needed.ensures.own ∙ ap₂ with_rule none c.needed.ensures.rule in
+    let with_2 = c.in_ok-arg-2.ensures.shape c.needed-2.ensures.own ∙ ap₂ with_rule with_1 c.needed-2.ensures.rule in
+    let with_3 = c.in_ok-arg-3.ensures.shape c.needed-3.ensures.own ∙ ap₂ with_rule with_2 c.needed-3.ensures.rule in
+    let with_4 = c.in_ok-command.ensures.shape c.data_option.ensures.own ∙ ap₂ with_rule with_3 c.data_option.ensures.rule in
+    adds.shape (rw (
+      c.in_ok-command.ensures.globals,
+      c.data_option.ensures.own,
+      c.in_ok-arg-3.ensures.globals,
+      c.needed-3.ensures.own,
+      c.in_ok-arg-2.ensures.globals,
+      c.needed-2.ensures.own,
+      c.in_ok-arg.ensures.globals,
+      c.needed.ensures.own,
+      c.after_help.ensures,
+      c.about.ensures,
+      c.new.ensures.local,
+    ) refl)
+    ∙ ap (λ (form : App). with_subcommand (app_of old) form.top) with_4
