@@ -38,6 +38,35 @@ def look_for(board, image):
         fail(f"there is no object file {image}")
 
 
+def data_beside(journal):
+    """The options of `board` for the data of a journal, NAME.journal: those of the lines `SYMBOL = FILE` of NAME.data, if
+    it is there. The files are named from its folder on, and `#` begins a comment."""
+    path = journal.removesuffix(".journal") + ".data"
+    if path == f"{journal}.data" or not os.path.exists(path):
+        return []
+    found = []
+    with open(path, encoding="utf-8", errors="replace") as file:
+        for number, line in enumerate(file, 1):
+            place, _, name = (it.strip() for it in line.partition("#")[0].partition("="))
+            if place and name:
+                found += ["--data", f"{place}={os.path.join(os.path.dirname(path), name)}"]
+            elif line.partition("#")[0].strip():
+                fail(f"{path}, line {number}: a line is SYMBOL = FILE, or 0xADDRESS = FILE")
+    return found
+
+
+def keep_data(journal, kept):
+    """Leaves the data of a journal beside another one, which is kept of it."""
+    data = data_beside(journal)
+    path = kept.removesuffix(".journal") + ".data"
+    if data:
+        with open(path, "w", encoding="utf-8") as file:
+            for place, _, name in (it.partition("=") for it in data[1::2]):
+                file.write(f"{place} = {os.path.abspath(name)}\n")
+    elif os.path.exists(path):
+        os.remove(path)
+
+
 class Names:
     """The symbols of an image, and its lines."""
 
@@ -180,8 +209,8 @@ class Objects:
 class Debugger:
     """The debugger of the board."""
 
-    def __init__(self, board, image, config, journal):
-        self.program = subprocess.Popen([board, "debug", image, config, journal], stdin=subprocess.PIPE,
+    def __init__(self, board, image, config, journal, data=()):
+        self.program = subprocess.Popen([board, "debug", image, config, journal, *data], stdin=subprocess.PIPE,
                                         stdout=subprocess.PIPE, text=True, errors="replace")
 
     def lines(self, command):
@@ -241,10 +270,10 @@ class Report:
 
 
 class Program:
-    """A program with its configuration."""
+    """A program with its configuration, and with the data of a journal."""
 
-    def __init__(self, board, image, config):
-        self.board, self.image, self.config = board, image, config
+    def __init__(self, board, image, config, journal):
+        self.board, self.image, self.config, self.data = board, image, config, data_beside(journal)
         self.objects = Objects(config)
         look_for(board, image)
         with open(image, "rb") as file:
@@ -267,11 +296,12 @@ class Program:
 
     def run(self, journal):
         """The report of a journal, or nothing where it has a fault, which `board` tells."""
-        ran = subprocess.run([self.board, "run", self.image, self.config, journal], stdout=subprocess.PIPE, check=False)
+        ran = subprocess.run([self.board, "run", self.image, self.config, journal, *self.data], stdout=subprocess.PIPE,
+                             check=False)
         return Report(ran.stdout) if ran.returncode == 0 else None
 
     def traced(self, journal, *options):
-        return subprocess.run([self.board, "trace", self.image, self.config, journal, *options],
+        return subprocess.run([self.board, "trace", self.image, self.config, journal, *self.data, *options],
                               stdout=subprocess.PIPE, check=False).stdout.decode(errors="replace")
 
     def has_trace(self):
@@ -284,7 +314,7 @@ class Program:
         place = self.names().place("board_stopped")
         if not place:
             return None, None
-        debugger = Debugger(self.board, self.image, self.config, journal)
+        debugger = Debugger(self.board, self.image, self.config, journal, self.data)
         debugger.answer(f"goto {report.events}")
         order = "little" if self.is_little else "big"
 
@@ -320,7 +350,7 @@ class Program:
         if not found:
             return None, None
         event, cpu, kind, number = found.groups()
-        debugger = Debugger(self.board, self.image, self.config, journal)
+        debugger = Debugger(self.board, self.image, self.config, journal, self.data)
         debugger.answer(f"goto {event}")
         registers = dict(it.split() for it in debugger.lines(f"regs {cpu}"))
         file, line, condition = (int(registers.get(f"${it}", "0"), 16) for it in (4, 5, 6))

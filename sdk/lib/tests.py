@@ -64,7 +64,7 @@ class Test:
         self.seconds = time.monotonic() - began
 
     def tried(self, words, journal):
-        program = programs.Program(words.board, words.image, words.config)
+        program = programs.Program(words.board, words.image, words.config, self.path)
         report = program.run(journal) if program.ordered(self.path, journal) else None
         if report is None:
             return False, os.fsencode(f"FAILED: {self.path}\n")
