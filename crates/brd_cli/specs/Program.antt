@@ -10,7 +10,7 @@ use Rattle.brd_data.specs.declared.laid.Laid.{Laid}
 use Rattle.brd_cli.specs.Requests.{IsAnswer}
 use Rattle.brd_cli.specs.declared.end.EarlyEnd.{EarlyEnd}
 use Rattle.brd_cli.specs.declared.end.EarlyEnd.TheVariants.{Data, Fault}
-use Rattle.brd_cli.specs.declared.request.Asked.{Asked}
+use Rattle.brd_cli.specs.declared.request.Line.{Line}
 
 -- the fault of a command, or of its data
 abbrev pub of_fault : DataFault → EarlyEnd
@@ -34,7 +34,7 @@ pub data ProgramEnds {F I O R W : Type 0}
       files ≡ files_old → input ≡ input_old → output ≡ output_old →
       ProgramEnds opened created closed remaining contents unread written
       words files_old files input_old input output_old output result
-  asked : (it : Asked) (end : Result Unit DataFault) → IsAnswer words (Ok it) →
+  asked : (it : Line) (end : Result Unit DataFault) → IsAnswer words (Ok it) →
       EndsWithData opened created closed remaining contents unread written
       it.request (map (λ text. text.now) it.texts.items) files_old files input_old input output_old output end →
       result ≡ stop_of end →

@@ -22,7 +22,7 @@ use Rattle.brd_search.specs.declared.options.Sizes.{Sizes}
 use Rattle.brd_try.specs.declared.options.TryOptions.{TryOptions}
 use Rattle.brd_cli.specs.declared.end.EarlyEnd.{EarlyEnd}
 use Rattle.brd_cli.specs.declared.end.EarlyEnd.TheVariants.{Data, Fault, Usage}
-use Rattle.brd_cli.specs.declared.request.Asked.{Asked}
+use Rattle.brd_cli.specs.declared.request.Line.{Line}
 use Rattle.brd_cli.specs.Usage.{board, inputs, pair, race_files, source_and_out}
 
 -- ---- what was given
@@ -230,7 +230,7 @@ data_in (Some found) = unwrap_or (all_of (codes "DATA") found.1) []
 -- What the words of a command line come to, of which the first is the program's name: what the command that they name
 -- asks for, with its data, where nothing is wrong with them; else one of the faults of the first step that fails, or lack of memory.
 -- The last case is for words that pass though the command or an argument is missing, which none are known to do.
-abbrev pub IsAnswer : List Text → Result Asked EarlyEnd → Type 0
+abbrev pub IsAnswer : List Text → Result Line EarlyEnd → Type 0
 IsAnswer words (Ok asked) = (fault_of board words ≡ []) × IsAsked (subcommand_of board words) (Some asked.request)
     × (map (λ text. text.now) asked.texts.items ≡ data_in (subcommand_of board words))
 IsAnswer words (Err (Fault fault)) = fault ≡ NoMemory

@@ -26,7 +26,7 @@ use std::convert::AsStr;
 
 /// What is asked for.
 #[derive(Drop)]
-pub struct Asked<'a> {
+pub struct Line<'a> {
     /// The request.
     pub request: Request<'a>,
     /// The texts of its data.
@@ -34,7 +34,7 @@ pub struct Asked<'a> {
 }
 
 /// What the words of a command line ask for, of which the first is the program's name.
-pub fn asked<'a, S: AsStr>(alloc: Global, words: &'a [S]) -> Result<Asked<'a>, EarlyEnd>
+pub fn asked<'a, S: AsStr>(alloc: Global, words: &'a [S]) -> Result<Line<'a>, EarlyEnd>
     ensures { IsAnswer (map S.text words.entry.now) result }
 {
     let mut board = board_command(alloc)?;
@@ -46,13 +46,13 @@ fn asked_of<'a, S: AsStr>(
     alloc: Global,
     board: &mut Command<'a>,
     words: &'a [S],
-) -> Result<Asked<'a>, EarlyEnd>
+) -> Result<Line<'a>, EarlyEnd>
     ensures { app_of board.old ≡ usage.board → IsAnswer (map S.text words.entry.now) result }
 {
     let matches = board.try_get_matches_from_mut(words)?;
     if let Some(request) = request_of(&matches) {
         let texts = data_of(alloc, &matches)?;
-        return Ok(Asked { request, texts });
+        return Ok(Line { request, texts });
     }
     Err(EarlyEnd::from(missing(board)?))
 }

@@ -5,10 +5,10 @@ use Rattle.brd_cli.specs.End.{IsWantOfMemory}
 use Rattle.brd_cli.specs.Requests.{IsAnswer}
 use Rattle.brd_cli.specs.declared.end.EarlyEnd.{EarlyEnd}
 use Rattle.brd_cli.specs.declared.end.EarlyEnd.TheVariants.{Data, Fault, Usage}
-use Rattle.brd_cli.specs.declared.request.Asked.{Asked}
+use Rattle.brd_cli.specs.declared.request.Line.{Line}
 use Rattle.brd_cli.proofs.request.asked.Goals as goal
 
-out_of_memory : (words : List Text) (result : Result Asked EarlyEnd) → IsErrAnd result IsWantOfMemory → IsAnswer words result
+out_of_memory : (words : List Text) (result : Result Line EarlyEnd) → IsErrAnd result IsWantOfMemory → IsAnswer words result
 out_of_memory words (Ok it) is = absurd is
 out_of_memory words (Err (Fault fault)) is = cc
 out_of_memory words (Err (Data fault)) is = cc

@@ -9,7 +9,7 @@ use Rattle.brd_cli.specs.Requests.{IsAnswer, IsAsked, data_in}
 use Rattle.brd_cli.specs.Usage.{board}
 use Rattle.brd_cli.specs.declared.end.EarlyEnd.{EarlyEnd}
 use Rattle.brd_cli.specs.declared.end.EarlyEnd.TheVariants.{Data, Fault, Usage}
-use Rattle.brd_cli.specs.declared.request.Asked.{Asked}
+use Rattle.brd_cli.specs.declared.request.Line.{Line}
 use Rattle.brd_cli.proofs.request.asked_of.Goals as goal
 
 board_is_simple : (is_simple_and_free board ≡ true) × (is_simple board ≡ true)
@@ -17,7 +17,7 @@ unfolding clap_on_literals
 board_is_simple = (refl, refl)
 
 -- what is asked for by the command that a parse found
-is_answer : {X : Type 0} (app : App) (words : List Text) (found : Option (Text × List Row)) (it : Asked) → app ≡ board
+is_answer : {X : Type 0} (app : App) (words : List Text) (found : Option (Text × List Row)) (it : Line) → app ≡ board
     → (is_simple_and_free app ≡ true → fault_of app words ≡ []) → (is_simple app ≡ true → X × (found ≡ subcommand_of app words))
     → IsAsked found (Some it.request) → map (λ text. text.now) it.texts.items ≡ data_in found → IsAnswer words (Ok it)
 is_answer app words found it is passes finds asked texts =
@@ -34,7 +34,7 @@ returns-in_ok-texts g c = λ is.
     is_answer _ _ _ _ is parse.kinds parse.ok.2 (search rules) (search rules)
 
 -- what a parse that failed comes to
-refused : (app : App) (words : List Text) (error : Error) (result : Result Asked EarlyEnd) → app ≡ board
+refused : (app : App) (words : List Text) (error : Error) (result : Result Line EarlyEnd) → app ≡ board
     → (is_simple_and_free app ≡ true → HasKind (fault_of app words) error) → IsErrAnd result (IsEarlyEndOf error) → IsAnswer words result
 refused app words error (Ok it) is has stop = absurd stop
 refused app words error (Err (Data fault)) is has stop = absurd stop
