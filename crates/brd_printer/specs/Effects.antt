@@ -4,13 +4,16 @@ use Rattle.std.specs.Prelude.{◌≡◌, ℕ, ◌+◌, ◌-◌, ◌*◌, ◌/◌
 use Rattle.std.specs.Prelude.{◌++◌, take, drop, codes, Option, Some, None}
 use Rattle.brd_word.specs.declared.order.Order.{Order}
 use Rattle.brd_text.specs.Hex.{hex_of}
-use Rattle.brd_isa.specs.declared.instruction.{Insn.Insn, LoadOp.LoadOp}
+use Rattle.brd_isa.specs.declared.instruction.Insn.{Insn}
+use Rattle.brd_isa.specs.declared.shape.{AccessSize.AccessSize, Flow.Flow}
+use Rattle.brd_isa.specs.Shapes.{shape_of}
 use Rattle.brd_mem.specs.declared.image.{Symbol.Symbol}
 use Rattle.brd_listing.specs.Places.{place_text}
 use Rattle.brd_listing.specs.Listing.{register_text, IsListed}
 use Rattle.brd_happening.specs.declared.instruction.{Change.Change, Written.Written, Access.Access, Jump.Jump}
 use Rattle.brd_happening.specs.declared.instruction.{AccessKind.AccessKind, Instruction.Instruction}
 use Rattle.brd_happening.specs.declared.instruction.AccessKind.TheVariants.{Loads, Stores, StoresIfLinked}
+use Rattle.brd_happening.specs.Instruction.{has_stored}
 use Rattle.brd_printer.specs.declared.effect.{Form.Form, Part.Part}
 use Rattle.brd_printer.specs.declared.effect.Part.TheVariants.{Byte, Halfword, Word}
 use Rattle.brd_names.specs.declared.names.Names.{Names}
@@ -34,12 +37,21 @@ word_written name (Some it) = change_text name it
 
 -- What is shown of memory beside a load or a store: of LB and LBU the byte, of LH and LHU the halfword, of all others
 -- the aligned word.
-abbrev pub part_of : Insn → Part
-part_of (Insn.Load LoadOp.Lb rt base offset) = Byte
-part_of (Insn.Load LoadOp.Lbu rt base offset) = Byte
-part_of (Insn.Load LoadOp.Lh rt base offset) = Halfword
-part_of (Insn.Load LoadOp.Lhu rt base offset) = Halfword
-part_of _ = Word
+abbrev pub loaded_part : AccessSize → Part
+loaded_part AccessSize.Byte = Byte
+loaded_part AccessSize.Halfword = Halfword
+loaded_part AccessSize.Word = Word
+loaded_part AccessSize.LeftPart = Word
+loaded_part AccessSize.RightPart = Word
+
+abbrev pub part_by : AccessKind → AccessSize → Part
+part_by Loads size = loaded_part size
+part_by Stores size = Word
+part_by (StoresIfLinked stored) size = Word
+
+abbrev pub part_of : Option Access → Part
+part_of None = Word
+part_of (Some access) = part_by access.kind access.size
 
 -- where a part begins that an address lies in
 abbrev pub start_of : Part → ℕ → ℕ
@@ -77,12 +89,6 @@ abbrev pub outcome_text : AccessKind → List ℕ
 outcome_text (StoresIfLinked stored) = if stored then codes "; stored" else codes "; not stored"
 outcome_text _ = []
 
--- an instruction has stored
-abbrev pub stores : AccessKind → Bool
-stores Loads = false
-stores Stores = true
-stores (StoresIfLinked stored) = stored
-
 -- what a store has written over
 abbrev pub old_text : Order → Part → ℕ → Option Change → List ℕ
 old_text order part address None = []
@@ -92,16 +98,18 @@ abbrev pub access_text : Form → Part → Option Access → List ℕ
 access_text form part None = []
 access_text form part (Some it) =
     cell_text form.names form.order part it.address it.word
-    ++ (if form.old && stores it.kind then old_text form.order part it.address it.word else []) ++ outcome_text it.kind
+    ++ (if form.old && has_stored it.kind then old_text form.order part it.address it.word else []) ++ outcome_text it.kind
 
 -- ---- where it leads
 
 -- an instruction that jumps or doesn't
+abbrev pub is_branching : Flow → Bool
+is_branching Flow.Branch = true
+is_branching Flow.BranchAndLink = true
+is_branching _ = false
+
 abbrev pub is_branch : Insn → Bool
-is_branch (Insn.Branch op rs rt offset) = true
-is_branch (Insn.BranchZero op rs offset) = true
-is_branch (Insn.BranchRegimm op rs offset) = true
-is_branch _ = false
+is_branch insn = is_branching (shape_of insn).flow
 
 abbrev pub jump_start : Bool → List ℕ
 jump_start branches = if branches then codes "; taken, to " else codes "; to "
@@ -119,7 +127,7 @@ slot_text in_slot = if in_slot then codes "; in the delay slot" else []
 abbrev pub effect_text : Form → Instruction → List ℕ
 effect_text form it =
     register_written it.register ++ word_written (codes "hi") it.hi ++ word_written (codes "lo") it.lo
-    ++ access_text form (part_of it.insn) it.access
+    ++ access_text form (part_of it.access) it.access
     ++ jump_text form.names.symbols.now (is_branch it.insn) it.jump ++ slot_text it.in_slot
 
 -- A text is what is told of an instruction at an address: the instruction, what it did, a text of the links that it

@@ -8,7 +8,7 @@ ghost use Rattle.brd_printer.specs.Links.{text_of};
 use crate::links::Links;
 use brd_base::NoMemory;
 use brd_happening::{Access, AccessKind, Change, Instruction, Jump, Written};
-use brd_isa::{Insn, LoadOp};
+use brd_isa::{AccessSize, Flow, Insn, shape_of};
 use brd_listing::{write_instruction, write_register};
 use brd_names::{Names, put, put_word};
 use brd_text::hex_digits;
@@ -51,7 +51,7 @@ fn put_effect(form: Form, it: &Instruction, out: &mut Vec<u8>) -> Result<(), NoM
     put_register(out, it.register)?;
     put_word_written(out, "hi", it.hi)?;
     put_word_written(out, "lo", it.lo)?;
-    put_access(form, part_of(&it.insn), it.access, out)?;
+    put_access(form, part_of(it.access), it.access, out)?;
     put_jump(form.names, is_branch(&it.insn), it.jump, out)?;
     put_slot(it.in_slot, out)
 }
@@ -122,21 +122,10 @@ fn put_access(
         return Ok(());
     };
     put_cell(form.names, form.order, part, it.address, it.word, out)?;
-    if form.old && stores(it.kind) {
+    if form.old && it.kind.has_stored() {
         put_old(form.order, part, it.address, it.word, out)?;
     }
     put_outcome(it.kind, out)
-}
-
-/// Whether an instruction has stored.
-fn stores(kind: AccessKind) -> bool
-    ensures { result ≡ effects.stores kind }
-{
-    match kind {
-        AccessKind::Loads => false,
-        AccessKind::Stores => true,
-        AccessKind::StoresIfLinked(stored) => stored,
-    }
 }
 
 /// Puts at the end the part of memory in which an address lies, as it was before the event.
@@ -205,13 +194,23 @@ fn put_outcome(kind: AccessKind, out: &mut Vec<u8>) -> Result<(), NoMemory>
     }
 }
 
-/// Which part is shown beside a load or a store.
-fn part_of(insn: &Insn) -> Part
-    ensures { result ≡ effects.part_of insn.now }
+/// Which part is shown beside a load or a store: of a load what it loads, else the aligned word.
+fn part_of(access: Option<Access>) -> Part
+    ensures { result ≡ effects.part_of access }
 {
-    match *insn {
-        Insn::Load(LoadOp::Lb | LoadOp::Lbu, _, _, _) => Part::Byte,
-        Insn::Load(LoadOp::Lh | LoadOp::Lhu, _, _, _) => Part::Halfword,
+    match access {
+        Some(access) => part_by(access.kind, access.size),
+        None => Part::Word,
+    }
+}
+
+/// The same of an access of this kind.
+fn part_by(kind: AccessKind, size: AccessSize) -> Part
+    ensures { result ≡ effects.part_by kind size }
+{
+    match (kind, size) {
+        (AccessKind::Loads, AccessSize::Byte) => Part::Byte,
+        (AccessKind::Loads, AccessSize::Halfword) => Part::Halfword,
         _ => Part::Word,
     }
 }
@@ -257,10 +256,7 @@ fn digits_of(part: Part) -> usize
 fn is_branch(insn: &Insn) -> bool
     ensures { result ≡ effects.is_branch insn.now }
 {
-    matches!(
-        *insn,
-        Insn::Branch(_, _, _, _) | Insn::BranchZero(_, _, _) | Insn::BranchRegimm(_, _, _)
-    )
+    matches!(shape_of(insn).flow, Flow::Branch | Flow::BranchAndLink)
 }
 
 /// Puts at the end where a branch or a jump leads, or that a branch isn't taken.

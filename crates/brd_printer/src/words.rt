@@ -1,12 +1,11 @@
 //! The words of which a trace shows loads and stores, as an option names them.
 
 ghost use Rattle.std.specs.Prelude.{◌≡◌, IfErr, OnOk};
-ghost use Rattle.brd_mem.specs.Image.{symbol_value};
 ghost use Rattle.brd_printer.specs.Words as words;
 
 use brd_base::{List, NoMemory};
 use brd_board::Board;
-use brd_mem::Symbol;
+use brd_mem::{Symbol, symbol_value};
 use brd_text::{is_digit, number, piece};
 
 /// Why there are no such words.
@@ -89,16 +88,4 @@ fn begins_with_digit(text: &[u8]) -> bool
         Some(first) => is_digit(*first),
         None => false,
     }
-}
-
-/// The value of the symbol of that name.
-fn symbol_value(symbols: &[Symbol], name: &[u8]) -> Option<u32>
-    ensures { result ≡ symbol_value symbols.now name.now }
-{
-    for symbol in symbols {
-        if name == symbol.name.as_slice() {
-            return Some(symbol.value);
-        }
-    }
-    None
 }
