@@ -4,7 +4,7 @@ use Rattle.std.specs.Prelude.{◌+◌, ◌%◌, ◌^◌, nat_lt, Bool, true, fal
 use Rattle.brd_board.specs.declared.event.Event.{Event}
 use Rattle.brd_board.specs.declared.event.Event.TheVariants.{Step, Tick, Raise}
 use Rattle.brd_board.specs.Board.{BoardState}
-use Rattle.brd_debug.specs.declared.touching.Span.{Span}
+use Rattle.brd_exec.specs.declared.accessed.Span.{Span}
 use Rattle.brd_debug.specs.Touching.{holds, holds_some, read_on, written_on, touches}
 
 no-more : (a b c : Bool) → (a && false || (b && false || c && false)) ≡ false

@@ -18,4 +18,4 @@ pub use debugger::Debugger;
 pub use fault::DebugFault;
 pub use look::Look;
 pub use stops::{Stepper, stepped_on};
-pub use touching::{Span, read_on, written_on};
+pub use touching::{read_on, written_on};

@@ -1,18 +1,21 @@
 -- Which bytes of a set an instruction names.
 use Rattle.std.proofs.Common.{◌≡◌, ◌⊎◌, ℕ, zero, suc, ◌+◌, ◌%◌, ◌^◌, ◌<◌, ◌≤◌, List, refl, subst, ◌∙◌, arith, inl, inr}
-use Rattle.std.specs.Prelude.{Bool, true, ◌&&◌, ◌||◌, nat_lt, Option, Some, None, option_and_then}
+use Rattle.std.specs.Prelude.{Bool, true, false, if◌then◌else◌, ◌&&◌, ◌||◌, nat_lt, Option, Some, None, option_and_then}
 use Rattle.std.proofs.lemmas.Bool.{or_cases, and_parts, and_from, or_left, or_right, ltb-true, lt-ltb, false≢true}
 use Rattle.brd_word.specs.declared.order.Order.{Order}
-use Rattle.brd_isa.specs.declared.instruction.{Insn.Insn, LoadOp.LoadOp, StoreOp.StoreOp, LinkedOp.LinkedOp}
+use Rattle.brd_isa.specs.declared.instruction.Insn.{Insn}
+use Rattle.brd_isa.specs.declared.shape.{AccessSize.AccessSize, MemoryAccess.MemoryAccess}
+use Rattle.brd_isa.specs.Shapes.{shape_of, does_load, does_store}
+use Rattle.brd_exec.specs.declared.accessed.Span.{Span}
+use Rattle.brd_exec.specs.Accessed.{span_up_to, span_from, left_part, right_part, span_of, address_in, span_in}
+use Rattle.brd_exec.specs.Accessed.{loaded_by, stored_by, reads_by, writes_by}
 use Rattle.brd_exec.specs.State.{State, address_of}
 use Rattle.brd_mem.specs.Memory.{Memory}
 use Rattle.brd_board.specs.declared.event.Event.{Event}
 use Rattle.brd_board.specs.declared.event.Event.TheVariants.{Step, Tick, Raise}
 use Rattle.brd_board.specs.Board.{BoardState, registers_of}
-use Rattle.brd_debug.specs.declared.touching.Span.{Span}
 use Rattle.brd_debug.specs.Marks.{is_marked}
-use Rattle.brd_debug.specs.Touching.{span_up_to, span_from, left_part, right_part, loaded_span, stored_span, reads_by}
-use Rattle.brd_debug.specs.Touching.{writes_by, insn_at, read_next, written_next, read_on, written_on, holds}
+use Rattle.brd_debug.specs.Touching.{insn_at, read_next, written_next, read_on, written_on, holds}
 use Rattle.brd_debug.specs.Touching.{holds_some, touches}
 use Rattle.brd_stub.specs.Hits.{IsWithin, IsRead, IsWritten}
 
@@ -41,36 +44,38 @@ right : (order : Order) (address : ℕ) → address < 2 ^ 32 → IsSpan (right_p
 right Order.Big address lt = up-to address lt
 right Order.Little address lt = from address lt
 
-loaded : (order : Order) (op : LoadOp) (address : ℕ) → address < 2 ^ 32 → IsSpan (loaded_span order op address)
-loaded order LoadOp.Lb address lt = record { first = lt; some = omega arith; few = omega arith }
-loaded order LoadOp.Lh address lt = record { first = lt; some = omega arith; few = omega arith }
-loaded order LoadOp.Lwl address lt = left order address lt
-loaded order LoadOp.Lw address lt = record { first = lt; some = omega arith; few = omega arith }
-loaded order LoadOp.Lbu address lt = record { first = lt; some = omega arith; few = omega arith }
-loaded order LoadOp.Lhu address lt = record { first = lt; some = omega arith; few = omega arith }
-loaded order LoadOp.Lwr address lt = right order address lt
-
-stored : (order : Order) (op : StoreOp) (address : ℕ) → address < 2 ^ 32 → IsSpan (stored_span order op address)
-stored order StoreOp.Sb address lt = record { first = lt; some = omega arith; few = omega arith }
-stored order StoreOp.Sh address lt = record { first = lt; some = omega arith; few = omega arith }
-stored order StoreOp.Swl address lt = left order address lt
-stored order StoreOp.Sw address lt = record { first = lt; some = omega arith; few = omega arith }
-stored order StoreOp.Swr address lt = right order address lt
+spanned : (order : Order) (size : AccessSize) (address : ℕ) → address < 2 ^ 32 → IsSpan (span_of order size address)
+spanned order AccessSize.Byte address lt = record { first = lt; some = omega arith; few = omega arith }
+spanned order AccessSize.Halfword address lt = record { first = lt; some = omega arith; few = omega arith }
+spanned order AccessSize.Word address lt = record { first = lt; some = omega arith; few = omega arith }
+spanned order AccessSize.LeftPart address lt = left order address lt
+spanned order AccessSize.RightPart address lt = right order address lt
 
 named : (s : State) (base offset : ℕ) → address_of s base offset < 2 ^ 32
 named s base offset = omega arith
 
+if-spanned : (test : Bool) (s : Span) → IsSpan s → AreSpan (if test then Some s else None)
+if-spanned true s is = is
+if-spanned false s is = tt
+
+accessed : (order : Order) (s : State) (access : MemoryAccess) → IsSpan (span_in order s access)
+accessed order s access = spanned order access.size (address_in s access) (named s access.base access.offset)
+
+loads : (order : Order) (s : State) (access : Option MemoryAccess) → AreSpan (loaded_by order s access)
+loads order s None = tt
+loads order s (Some access) =
+    if-spanned (does_load access.transfer) (span_in order s access) (accessed order s access)
+
+stores : (order : Order) (s : State) (access : Option MemoryAccess) → AreSpan (stored_by order s access)
+stores order s None = tt
+stores order s (Some access) =
+    if-spanned (does_store access.transfer) (span_in order s access) (accessed order s access)
+
 reads : (order : Order) (insn : Insn) (s : State) → AreSpan (reads_by order insn s)
-reads order (Insn.Load op rt base offset) s = loaded order op (address_of s base offset) (named s base offset)
-reads order (Insn.Linked LinkedOp.Ll rt base offset) s =
-    record { first = named s base offset; some = omega arith; few = omega arith }
-reads order other s = tt
+reads order insn s = loads order s (shape_of insn).access
 
 writes : (order : Order) (insn : Insn) (s : State) → AreSpan (writes_by order insn s)
-writes order (Insn.Store op rt base offset) s = stored order op (address_of s base offset) (named s base offset)
-writes order (Insn.Linked LinkedOp.Sc rt base offset) s =
-    record { first = named s base offset; some = omega arith; few = omega arith }
-writes order other s = tt
+writes order insn s = stores order s (shape_of insn).access
 
 reads-found : (order : Order) (s : State) (found : Option Insn) →
     AreSpan (option_and_then (λ insn. reads_by order insn s) found)

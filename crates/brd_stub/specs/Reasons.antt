@@ -8,7 +8,7 @@ use Rattle.brd_board.specs.declared.event.Event.TheVariants.{Step, Tick, Raise}
 use Rattle.brd_board.specs.declared.event.Report.{Report}
 use Rattle.brd_board.specs.declared.event.Report.TheVariants as report
 use Rattle.brd_board.specs.Board.{BoardState, registers_of, fault_of}
-use Rattle.brd_debug.specs.declared.touching.Span.{Span}
+use Rattle.brd_exec.specs.declared.accessed.Span.{Span}
 use Rattle.brd_debug.specs.declared.look.Look.{Look}
 use Rattle.brd_debug.specs.Touching.{read_on, written_on}
 use Rattle.brd_gdb.specs.declared.request.PointKind.{PointKind}

@@ -20,7 +20,8 @@ ghost use Rattle.brd_stub.specs.Reasons.{kind_at, is_other, differ, changed, mee
 
 use brd_base::NoMemory;
 use brd_board::Board;
-use brd_debug::{Debugger, Span};
+use brd_debug::Debugger;
+use brd_exec::Span;
 use brd_gdb::PointKind;
 use std::alloc::Global;
 use std::marker::Model;
