@@ -2,7 +2,6 @@
 
 use crate::table::{Form, KEYS, ROWS, key_of};
 use brd_board::{Board, Event, Report};
-use brd_word::Order;
 use std::io::Print;
 
 /// Which instructions were done, by their keys.
@@ -76,19 +75,6 @@ impl Seen {
 /// The word that a processor does next, and whether it is in a delay slot; None where it does none.
 fn next_of(board: &Board, cpu: u8) -> Option<(u32, bool)> {
     let context = board.registers(cpu)?;
-    let word = word_at(board, context.pc())?;
+    let word = board.word(context.pc())?;
     Some((word, context.slot()))
-}
-
-/// The word at an address.
-fn word_at(board: &Board, address: u32) -> Option<u32> {
-    let mut word = 0u32;
-    for at in 0..4u32 {
-        let byte = board.memory(address.wrapping_add(at))?;
-        word = word << 8 | u32::from(byte);
-    }
-    Some(match board.order() {
-        Order::Big => word,
-        Order::Little => word.swap_bytes(),
-    })
 }
