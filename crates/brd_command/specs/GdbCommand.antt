@@ -4,15 +4,14 @@ use Rattle.std.specs.IoError.{error_kind}
 use Rattle.std.specs.declared.io.Error.{Error}
 use Rattle.std.specs.declared.io.ErrorKind.TheVariants.{OutOfMemory, UnexpectedEof}
 use Rattle.brd_running.specs.Debugging.{GivesNoDebugger}
+use Rattle.brd_running.specs.Files.{FilesEnd}
 use Rattle.brd_command.specs.Serving.{HasServed, IsReady, Serves}
 use Rattle.brd_command.specs.declared.gdb_server.Server.{Server}
 use Rattle.brd_inputs.specs.Input.{most_bytes}
-use Rattle.brd_inputs.specs.Opening.{OpensInputs}
 use Rattle.brd_inputs.specs.Start.{AreWithin, IsStart}
 use Rattle.brd_inputs.specs.declared.fault.CommandFault.{CommandFault}
 use Rattle.brd_inputs.specs.declared.fault.CommandFault.TheVariants.{NoMemory, Read, TooLong, TooManyReads, Write}
 use Rattle.brd_inputs.specs.declared.input_name.InputName.TheVariants.{StandardInput}
-use Rattle.brd_inputs.specs.declared.inputs.Inputs.{Inputs}
 use Rattle.brd_inputs.specs.declared.start.Start.{Start}
 use Rattle.brd_report.specs.Output.{Writes}
 
@@ -95,16 +94,10 @@ GdbEnds remaining image config journal input_first input result old new =
 
 -- Standard input, which had `input_first` in it and has `input` left, is read, and answers are written, only where all
 -- three files were opened; else neither was.
-pub data GdbFilesEnd {F R C : Type 0}
-    (opened : F → List ℕ → Result R Error → F → Type 0) (remaining : R → Option (List ℕ)) (unread : C → Option (List ℕ))
-    (old : F) (image config journal : List ℕ) (input_first input : C) (before after : Option (List ℕ))
-    (result : Result Unit CommandFault) (new : F) : Type 0 where
-  not_opened : {fault : CommandFault} → OpensInputs opened old image config journal (Err fault) new →
-      result ≡ Err fault → before ≡ after →
-      input ≡ input_first →
-      GdbFilesEnd opened remaining unread old image config journal input_first input before after result new
-  ended : {inputs : Inputs R} → OpensInputs opened old image config journal (Ok inputs) new →
-      IfSome (remaining inputs.image)
-      (λ file. IfSome (remaining inputs.config) (λ statements. IfSome (remaining inputs.last) (λ events.
-      GdbEnds unread file statements events input_first input result before after))) →
-      GdbFilesEnd opened remaining unread old image config journal input_first input before after result new
+abbrev pub GdbFilesEnd : {F R C : Type 0} → (F → List ℕ → Result R Error → F → Type 0) → (R → Option (List ℕ)) →
+    (C → Option (List ℕ)) → F → List ℕ → List ℕ → List ℕ → C → C → Option (List ℕ) → Option (List ℕ) →
+    Result Unit CommandFault → F → Type 0
+GdbFilesEnd opened remaining unread old image config journal input_first input before after result new =
+    FilesEnd opened remaining
+    (λ file statements events. GdbEnds unread file statements events input_first input result before after)
+    ((before ≡ after) × (input ≡ input_first)) old image config journal result new

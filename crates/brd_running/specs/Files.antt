@@ -31,19 +31,27 @@ pub data AsmFilesEnd {F R W : Type 0}
       IfSome (remaining reader) (λ text. AsmEnds result text (contents writer) (contents last)) →
       AsmFilesEnd opened created closed remaining contents old source out result new
 
--- The report is written only where all three files were opened; else nothing was written.
-pub data RunFilesEnd {F R : Type 0}
+-- A command opens IMAGE, then CONFIG, then a last file. Only where all three were opened they are read, and it ends by
+-- what they have in them, as `ends` says; else it is refused for what kept one from being opened, and `untouched` says
+-- what it leaves alone.
+pub data FilesEnd {F R : Type 0}
     (opened : F → List ℕ → Result R Error → F → Type 0) (remaining : R → Option (List ℕ))
-    (old : F) (image config journal : List ℕ) (before after : Option (List ℕ)) (result : Result Unit CommandFault)
-    (new : F) : Type 0 where
-  not_opened : {fault : CommandFault} → OpensInputs opened old image config journal (Err fault) new →
-      result ≡ Err fault → before ≡ after →
-      RunFilesEnd opened remaining old image config journal before after result new
-  ended : {inputs : Inputs R} → OpensInputs opened old image config journal (Ok inputs) new →
+    (ends : List ℕ → List ℕ → List ℕ → Type 0) (untouched : Type 0)
+    (old : F) (image config last : List ℕ) (result : Result Unit CommandFault) (new : F) : Type 0 where
+  not_opened : {fault : CommandFault} → OpensInputs opened old image config last (Err fault) new →
+      result ≡ Err fault → untouched →
+      FilesEnd opened remaining ends untouched old image config last result new
+  ended : {inputs : Inputs R} → OpensInputs opened old image config last (Ok inputs) new →
       IfSome (remaining inputs.image)
-      (λ file. IfSome (remaining inputs.config) (λ statements. IfSome (remaining inputs.last) (λ events.
-      RunEnds result file statements events before after))) →
-      RunFilesEnd opened remaining old image config journal before after result new
+      (λ file. IfSome (remaining inputs.config) (λ statements. IfSome (remaining inputs.last) (ends file statements))) →
+      FilesEnd opened remaining ends untouched old image config last result new
+
+-- The report is written only where all three files were opened; else nothing was written.
+abbrev pub RunFilesEnd : {F R : Type 0} → (F → List ℕ → Result R Error → F → Type 0) → (R → Option (List ℕ)) →
+    F → List ℕ → List ℕ → List ℕ → Option (List ℕ) → Option (List ℕ) → Result Unit CommandFault → F → Type 0
+RunFilesEnd opened remaining old image config journal before after result new =
+    FilesEnd opened remaining (λ file statements events. RunEnds result file statements events before after)
+    (before ≡ after) old image config journal result new
 
 -- OUT is created only where all three files were opened; what `race` writes is written only where it was created too,
 -- and then OUT is let go as `race` left it. The fault of OUT has its name; unless all four were opened, nothing is
@@ -70,16 +78,10 @@ pub data RaceFilesEnd {F R W : Type 0}
 
 -- Standard input, which had `input_first` in it and has `input` left, is read, and answers are written, only where all
 -- three files were opened; else neither was.
-pub data DebugFilesEnd {F R C : Type 0}
-    (opened : F → List ℕ → Result R Error → F → Type 0) (remaining : R → Option (List ℕ)) (unread : C → Option (List ℕ))
-    (old : F) (image config journal : List ℕ) (input_first input : C) (before after : Option (List ℕ))
-    (result : Result Unit CommandFault) (new : F) : Type 0 where
-  not_opened : {fault : CommandFault} → OpensInputs opened old image config journal (Err fault) new →
-      result ≡ Err fault → before ≡ after →
-      input ≡ input_first →
-      DebugFilesEnd opened remaining unread old image config journal input_first input before after result new
-  ended : {inputs : Inputs R} → OpensInputs opened old image config journal (Ok inputs) new →
-      IfSome (remaining inputs.image)
-      (λ file. IfSome (remaining inputs.config) (λ statements. IfSome (remaining inputs.last) (λ events.
-      DebugEnds unread file statements events input_first input result before after))) →
-      DebugFilesEnd opened remaining unread old image config journal input_first input before after result new
+abbrev pub DebugFilesEnd : {F R C : Type 0} → (F → List ℕ → Result R Error → F → Type 0) → (R → Option (List ℕ)) →
+    (C → Option (List ℕ)) → F → List ℕ → List ℕ → List ℕ → C → C → Option (List ℕ) → Option (List ℕ) →
+    Result Unit CommandFault → F → Type 0
+DebugFilesEnd opened remaining unread old image config journal input_first input before after result new =
+    FilesEnd opened remaining
+    (λ file statements events. DebugEnds unread file statements events input_first input result before after)
+    ((before ≡ after) × (input ≡ input_first)) old image config journal result new

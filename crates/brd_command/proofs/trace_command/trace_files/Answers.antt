@@ -1,5 +1,5 @@
 use Rattle.std.proofs.Common.{refl}
-use Rattle.brd_command.specs.TraceFiles.{not_opened, ended}
+use Rattle.brd_running.specs.Files.{not_opened, ended}
 use Rattle.brd_command.proofs.trace_command.trace_files.Goals as goal
 
 pub returns-in-Err : goal.returns-in-Err
