@@ -400,6 +400,7 @@ impl Debugger {
     fn is_near_snapshot(&self, position: u64) -> bool
         requires { position ≤ length self.now.events }
     {
+        // For the proof alone: its contract says how few events there can be.
         let _ = self.journal.len();
         position <= self.snapshots.next(self.snapshots.last_before(position))
     }

@@ -116,6 +116,7 @@ pub(crate) fn go_back(
     ensures at { OnOk result (shown.new.at ≡ to) }
     ensures err { OnErr result (shown.new ≡ shown.old) }
 {
+    // For the proof alone: its contract says how few events there can be.
     let _ = journal.len();
     put_back(shown, boot, snapshots, to)?;
     shown.play_to(journal, to, to);

@@ -34,6 +34,7 @@ pub fn show_registers(out: &mut Vec<u8>, order: Order, context: &Context) -> Res
     ensures is { OnOk result (out.new.items ≡ out.old.items ++ registers_text order context.now) }
     ensures size { OnOk result (length out.new.items ≤ length out.old.items + 304) }
 {
+    // For the proof alone: its contract says how many words they are.
     let _ = context.registers();
     show_context(out, order, context)
 }
