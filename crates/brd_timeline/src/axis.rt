@@ -3,9 +3,10 @@
 ghost use Rattle.std.specs.Prelude.{◌≤◌};
 
 use crate::layout::{AXIS, LEFT, SPAN, TOP, bottom_of, x_of};
-use crate::number::{put, put_attribute, put_decimal};
+use crate::number::put_attribute;
 use crate::timeline::Timeline;
 use brd_base::NoMemory;
+use brd_text::{put, put_decimal};
 
 /// The most labels of an axis, about, fewer where the numbers are long; and the most lines of ticks.
 const LABELS: u64 = 12;

@@ -4,10 +4,11 @@ ghost use Rattle.std.specs.Prelude.{◌≤◌, OnOk};
 ghost use Rattle.brd_timeline.specs.Bars.{GoesOn};
 
 use crate::layout::{HEIGHT, x_of};
-use crate::number::{put, put_attribute, put_decimal};
+use crate::number::put_attribute;
 use crate::slice::{put_ink, put_rect, put_span};
 use crate::timeline::Timeline;
 use brd_base::NoMemory;
+use brd_text::{put, put_decimal};
 
 /// The colours of processors 1 to 8, from a palette whose colours are told apart without regard to how one sees them
 /// and are none of those of kinds (Paul Tol, "Colour Schemes", light).

@@ -6,11 +6,12 @@ use crate::cpus::Cpus;
 use crate::layout::{HEIGHT, LEFT, locks_shown, shows_turns};
 use crate::locks::{SPINS, SPINS_HEIGHT};
 use crate::mark::put_shape;
-use crate::number::{put, put_attribute};
+use crate::number::put_attribute;
 use crate::slice::{colour_of, height_of};
 use crate::timeline::{Kind, MarkKind, Timeline, kind_name, mark_name};
 use crate::turns::joins_turns;
 use brd_base::NoMemory;
+use brd_text::put;
 
 /// The kinds in the order of the legend.
 const KINDS: [Kind; 11] = [

@@ -5,11 +5,11 @@ ghost use Rattle.brd_timeline.specs.Bars.{GoesOn};
 
 use crate::cpus::{Bar, Cpus};
 use crate::layout::{HEIGHT, lock_y, locks_shown, x_of, y_of};
-use crate::number::{put, put_decimal};
 use crate::picture::put_title;
 use crate::slice::{put_rect, put_span};
 use crate::timeline::{Hold, Spinning, Timeline};
 use brd_base::NoMemory;
+use brd_text::{put, put_decimal};
 
 /// The colour of a stretch in which a task asks for a spin lock again and again.
 pub(crate) const SPINS: &str = "#d55e00";

@@ -5,9 +5,10 @@ ghost use Rattle.brd_timeline.specs.Bars.{GoesOn};
 
 use crate::escape::put_xml;
 use crate::layout::{HEIGHT, x_of, y_of};
-use crate::number::{put, put_decimal, put_tenths};
+use crate::number::put_tenths;
 use crate::timeline::{Mark, MarkKind, Timeline, label_or, mark_name};
 use brd_base::NoMemory;
+use brd_text::{put, put_decimal};
 
 /// The shape of a kind, from the middle of the lane's upper edge on, in pixels, with how it is drawn: a triangle for a
 /// call, a cross for a fault, a diamond for an interrupt, and a line for a tick. A cross and a diamond end above where

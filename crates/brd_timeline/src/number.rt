@@ -1,28 +1,10 @@
 //! Numbers as text.
 
 ghost use Rattle.std.specs.Prelude.{◌≡◌, ◌++◌, OnOk};
-ghost use Rattle.std.specs.Fmt.{decimal};
 ghost use Rattle.brd_timeline.specs.Bars as bars;
 
 use brd_base::NoMemory;
-use itoa::Buffer;
-
-/// Puts a text at the end.
-pub(crate) fn put(to: &mut Vec<u8>, text: &str) -> Result<(), NoMemory>
-    ensures { OnOk result (to.new.items ≡ to.old.items ++ text.now) }
-{
-    to.extend_from_slice(text.as_bytes())?;
-    Ok(())
-}
-
-/// Puts a decimal number at the end.
-pub(crate) fn put_decimal(to: &mut Vec<u8>, number: u64) -> Result<(), NoMemory>
-    ensures { OnOk result (to.new.items ≡ to.old.items ++ decimal number) }
-{
-    let mut buffer = Buffer::new();
-    to.extend_from_slice(buffer.format(number).as_bytes())?;
-    Ok(())
-}
+use brd_text::{put, put_decimal};
 
 /// Puts a number of tenths at the end, as `12.3`.
 pub(crate) fn put_tenths(to: &mut Vec<u8>, tenths: u32) -> Result<(), NoMemory>

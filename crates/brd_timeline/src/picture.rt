@@ -13,11 +13,12 @@ use crate::layout::{HEIGHT, LEFT, MOST_DRAWN, WIDTH, axes_of, bottom_of, y_of};
 use crate::legend::put_legend;
 use crate::locks::put_locks;
 use crate::mark::put_marks;
-use crate::number::{put, put_attribute, put_decimal, put_tenths};
+use crate::number::{put_attribute, put_tenths};
 use crate::slice::put_slices;
 use crate::timeline::{Lane, Timeline};
 use crate::turns::put_turns;
 use brd_base::NoMemory;
+use brd_text::{put, put_decimal};
 
 /// Puts a timeline at the end as a picture ("Scalable Vector Graphics (SVG) 1.1", W3C): a lane for each processor, each
 /// task and each spin lock, and one for the turns; a legend above, and the axes of events and ticks below. Where memory

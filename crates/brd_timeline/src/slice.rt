@@ -6,9 +6,10 @@ ghost use Rattle.brd_timeline.specs.Bars as bars;
 
 use crate::escape::put_xml;
 use crate::layout::{HEIGHT, x_of, y_of};
-use crate::number::{put, put_attribute, put_decimal};
+use crate::number::put_attribute;
 use crate::timeline::{Kind, Slice, Timeline, kind_name, label_or, lane_at};
 use brd_base::NoMemory;
+use brd_text::{put, put_decimal};
 
 /// The least width of a slice, in tenths of a pixel, so that each can be seen.
 const LEAST_WIDTH: u32 = 5;

@@ -7,12 +7,12 @@ ghost use Rattle.brd_timeline.specs.Escapes.{json_string};
 ghost use Rattle.brd_timeline.specs.Events as events;
 
 use crate::escape::{put_json, put_json_bytes};
-use crate::number::{put, put_decimal};
 use crate::timeline::{
     Group, Hold, Lane, Mark, Slice, Spinning, Timeline, Turn, kind_name, label_or, lane_at,
     mark_name,
 };
 use brd_base::NoMemory;
+use brd_text::{put, put_decimal};
 
 /// The processes that stand for the groups of lanes, for the ticks, the spin locks and the turns.
 const PROCESSORS: u64 = 1;

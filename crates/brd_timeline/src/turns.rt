@@ -5,10 +5,10 @@ ghost use Rattle.brd_timeline.specs.Bars.{GoesOn};
 
 use crate::cpus::{Bar, Cpus};
 use crate::layout::{shows_turns, turns_y};
-use crate::number::put;
 use crate::picture::put_title;
 use crate::timeline::{Timeline, Turn};
 use brd_base::NoMemory;
+use brd_text::put;
 
 /// How many turns of the same length a picture shows one by one. So it has at most twice as many bars, and one.
 const MOST_TURNS: u64 = 500;
