@@ -322,6 +322,7 @@ impl Search {
         ensures passed { HasPassed self.old at self.new }
         ensures spare { self.new.spare.items ≡ self.old.spare.items }
     {
+        // For the proof alone: a length fits into a word, and so does the place of the next event.
         let _ = among.len();
         self.at = at + 1;
         self.fresh = false;
@@ -405,6 +406,7 @@ impl Search {
         ensures falls { IfOk result (HasLess among.now self.old self.new) }
         ensures sized { IsSized self.new }
     {
+        // For the proof alone: what it says names both, and else it would take neither.
         let _ = (among.len(), wanted.rounds);
         self.count()?;
         Ok(self.leave(known))
