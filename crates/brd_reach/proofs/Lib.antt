@@ -2,5 +2,6 @@ pub mod WayLemmas
 pub mod AlikeLemmas
 pub mod ReachLemmas
 pub mod WalkLemmas
+pub mod LoopLemmas
 pub mod RoundLemmas
 pub mod AnswerLemmas

@@ -36,12 +36,12 @@ next-loud b cpu who next quiet = quiet (agent_by cpu next.executor) (record {
 
 -- Paths.
 
-invisible-same : (by : Sharing) (b : BoardState) (who : Agent) (x y : BoardState) → IsInvisible by b who x → IsInvisible by b who y → x ≡ y
+pub invisible-same : (by : Sharing) (b : BoardState) (who : Agent) (x y : BoardState) → IsInvisible by b who x → IsInvisible by b who y → x ≡ y
 invisible-same by b who x y one two =
     let both : Some x ≡ Some y = sym one.goes ∙ two.goes in
     cc
 
-path-same : (by : Sharing) (who : Agent) (n : ℕ) (b x y : BoardState) → Path by b who n x → Path by b who n y → x ≡ y
+pub path-same : (by : Sharing) (who : Agent) (n : ℕ) (b x y : BoardState) → Path by b who n x → Path by b who n y → x ≡ y
 path-same by who zero b x y one two = one ∙ sym two
 path-same by who (suc n) b x y one two =
     path-same by who n one.0 x y one.2
@@ -51,10 +51,10 @@ path-more : (by : Sharing) (who : Agent) (n : ℕ) (b x new : BoardState) → Pa
 path-more by who zero b x new path it = (new, subst (λ z. IsInvisible by z who new) path it, refl)
 path-more by who (suc n) b x new path it = (path.0, path.1, path-more by who n path.0 x new path.2 it)
 
-plus-zero : (m : ℕ) → 0 + m ≡ m
+pub plus-zero : (m : ℕ) → 0 + m ≡ m
 plus-zero m = omega arith
 
-plus-suc : (n m : ℕ) → suc n + m ≡ suc (n + m)
+pub plus-suc : (n m : ℕ) → suc n + m ≡ suc (n + m)
 plus-suc n m = omega arith
 
 -- a longer path goes on from where a shorter one ends, by an invisible instruction

@@ -51,7 +51,7 @@ pub record IsSharedWord (by : Sharing) (address : ℕ) : Type 0 where
   pub third : by.shared ((address + 2) % 2 ^ 32) ≡ true
   pub fourth : by.shared ((address + 3) % 2 ^ 32) ≡ true
 
--- what a failure watches of memory is shared
+-- what a failure watches of memory is shared; of instructions, which nobody else sees, it watches none
 abbrev pub IsGuarded : Sharing → Failure → Type 0
 IsGuarded by failure.Exception = Unit {0}
 IsGuarded by failure.Deadlock = Unit {0}
@@ -59,6 +59,7 @@ IsGuarded by (failure.Console text) = Unit {0}
 IsGuarded by (failure.Word address value) = IsSharedWord by address
 IsGuarded by (failure.Outside address least most) = IsSharedWord by address
 IsGuarded by failure.On = Unit {0}
+IsGuarded by (failure.At address) = ⊥
 
 abbrev pub Guards : Sharing → Wanted → Type 0
 Guards by wanted = All (IsGuarded by) wanted.failures

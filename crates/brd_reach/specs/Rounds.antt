@@ -65,12 +65,18 @@ pub record LeadsTo (by : Sharing) (b : BoardState) (cpu : ℕ) (last : BoardStat
   pub quiet : IsQuiet b (Step cpu) → (happens b (Step cpu)).board ≡ last
   pub blocks : Blocks by b cpu (λ new. new ≡ last)
 
--- what a processor's block came to, and the board after it; a block stays if nobody executes
+-- what a processor's block came to, and the board after it; a block stays if nobody executes, or if all its
+-- instructions are invisible, however many there are
 abbrev pub WentBy : Sharing → BoardState → ℕ → BoardState → Block → Type 0
 WentBy by b cpu new block.Stays = LeadsTo by b cpu b
 WentBy by b cpu new (block.Leads count) = (new ≡ after b (replicate count (Step cpu))) × LeadsTo by b cpu new
 WentBy by b cpu new (block.Strays count) = Unit {0}
 WentBy by b cpu new (block.Unknown why) = Unit {0}
+
+-- a block that has had so many instructions, all of them invisible, unless it came to something before
+abbrev pub WentTo : Sharing → BoardState → ℕ → ℕ → BoardState → Option Block → Type 0
+WentTo by b cpu upto new None = HasWalked by b cpu upto new
+WentTo by b cpu upto new (Some came) = WentBy by b cpu new came
 
 -- What was tried at a place.
 

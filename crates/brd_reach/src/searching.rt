@@ -1,6 +1,6 @@
 //! The search through all places.
 
-ghost use Rattle.std.specs.Prelude.{◌≡◌, IfOk, List as ListOf, true};
+ghost use Rattle.std.specs.Prelude.{◌≡◌, IfOk, IfSome, List as ListOf, true};
 ghost use Rattle.brd_blocks.specs.Owning.{StayShared, sharing_of};
 ghost use Rattle.brd_reach.specs.Reaching.{Guards, IsGuarded, IsSharedWord, ReachedSo};
 
@@ -43,7 +43,9 @@ pub fn reach(
         return Ok(Reached::Unknown(Unknown::Fair));
     }
     let size = ram_len(start);
-    let mut sharing = guarded(alloc, size, wanted)?;
+    let Some(mut sharing) = guarded(alloc, size, wanted)? else {
+        return Ok(Reached::Unknown(Unknown::Instruction));
+    };
     for _ in 0..MOST_ROUNDS {
         let words = owned_words(alloc, &sharing, size)?;
         let mut places = Places::new(alloc, start, left)?;
@@ -76,27 +78,32 @@ fn ram_len(board: &Board) -> u32 {
     PAGES * PAGE
 }
 
-/// Who may touch which word of a RAM of this size: all what failures watch, and nobody's else.
-fn guarded(alloc: Global, size: u32, wanted: &Wanted) -> Result<Sharing, NoMemory>
-    ensures { IfOk result (λ sharing. Guards (sharing_of sharing) wanted.now) }
+/// Who may touch which word of a RAM of this size: all what failures watch, and nobody's else. None if a failure watches
+/// instructions.
+fn guarded(alloc: Global, size: u32, wanted: &Wanted) -> Result<Option<Sharing>, NoMemory>
+    ensures { IfOk result (λ found. IfSome found (λ sharing. Guards (sharing_of sharing) wanted.now)) }
 {
     let mut sharing = Sharing::new(alloc, size)?;
     for failure in wanted.failures.as_slice() {
-        guard(&mut sharing, failure);
+        if !guard(&mut sharing, failure) {
+            return Ok(None);
+        }
     }
-    Ok(sharing)
+    Ok(Some(sharing))
 }
 
-/// All may touch what a failure watches, from now on.
-fn guard(sharing: &mut Sharing, failure: &Failure)
+/// All may touch what a failure watches, from now on. Answers whether it watches nothing else.
+fn guard(sharing: &mut Sharing, failure: &Failure) -> bool
     ensures stays { StayShared sharing.old sharing.new }
-    ensures guarded { IsGuarded (sharing_of sharing.new) failure.now }
+    ensures guarded { result ≡ true → IsGuarded (sharing_of sharing.new) failure.now }
 {
     match failure {
         Failure::Word { address, .. } | Failure::Outside { address, .. } => {
             guard_word(sharing, *address);
+            true
         }
-        Failure::Exception | Failure::Deadlock | Failure::Console(_) | Failure::On => {}
+        Failure::Exception | Failure::Deadlock | Failure::Console(_) | Failure::On => true,
+        Failure::At { .. } => false,
     }
 }
 

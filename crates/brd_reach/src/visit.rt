@@ -112,7 +112,7 @@ fn try_step(
         return Ok(Tried::Unknown(Unknown::Waits));
     }
     let mut last = board.try_copy()?;
-    match go(sharing, &mut last, cpu) {
+    match go(sharing, board, &mut last, cpu)? {
         Block::Stays => Ok(Tried::Done),
         Block::Leads(count) => {
             note(places, at, words, Event::Step(cpu), count, &last, left)?;
