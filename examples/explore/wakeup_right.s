@@ -12,7 +12,7 @@ first:  lui     $s0, %hi(ready)         # waits
         lw      $t0, %lo(ready)($s0)
         bnez    $t0, end
         nop
-        addiu   $a0, $0, 1
+sleep:  addiu   $a0, $0, 1
         addiu   $v0, $0, wai_sem
         syscall
         b       end

@@ -201,13 +201,6 @@ while IFS='|' read -r source config words told how; do
     read -ra given <<< "$words"
     unbounded "${given[@]}"
     case $source,$words,$told in
-    handoff_right.s,*)
-        # A task waits in a loop that nobody else can see.
-        assembled "$source"
-        explores "$image" "$examples/$config" "${options[@]}" --places 1000000
-        check "explore: $source $words, without bounds" 2 "$work/nothing" \
-            "board: the search: not known: a processor executes 10,000,000 instructions in a row that no other can see" $?
-        ;;
     *_right.s,*,none*)
         assembled "$source"
         explores "$image" "$examples/$config" "${options[@]}" --places 1000000

@@ -137,6 +137,7 @@ AreLooks rows looks = IsFlag (one_of (codes "exception") rows) looks.exception
     × IsFlag (one_of (codes "ends") rows) looks.on
     × (option_map (λ text. text.now) looks.words ≡ first_of (codes "WORDS") rows)
     × (option_map (λ text. text.now) looks.console ≡ first_of (codes "TEXT") rows)
+    × (option_map (λ text. text.now) looks.reach ≡ first_of (codes "LABELS") rows)
 
 -- the options of `explore`, each as it was given
 abbrev pub AreSearchOptions : List Row → SearchOptions → Type 0

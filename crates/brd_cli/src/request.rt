@@ -328,6 +328,7 @@ fn looks_of<'a>(arguments: &ArgMatches<'a>) -> Looks<'a>
         on: flag_of(arguments, "ends"),
         words: text_of(arguments, "WORDS"),
         console: text_of(arguments, "TEXT"),
+        reach: text_of(arguments, "LABELS"),
     }
 }
 

@@ -513,6 +513,12 @@ fn with_checks<'a>(alloc: Global, command: Command<'a>) -> Result<Command<'a>, N
             "console",
             "Fails where the console differs from TEXT, in which \\n, \\t, \\\\ and \\xHH stand for bytes",
         ))?
+        .arg(option(
+            alloc,
+            "LABELS",
+            "reach",
+            "Fails where a processor comes to the instruction at a label, as lost,0x80000010",
+        ))?
         .arg(count(
             alloc,
             "ROUNDS",

@@ -6,10 +6,11 @@ use Rattle.std.specs.Option.{option_or}
 use Rattle.brd_word.specs.declared.order.Order.{Order}
 use Rattle.brd_word.specs.Words.{word_of_bytes}
 use Rattle.brd_mem.specs.Memory.{byte_at}
+use Rattle.brd_exec.specs.State.{State}
 use Rattle.brd_tasks.specs.declared.task.TaskView.{TaskView}
 use Rattle.brd_board.specs.declared.event.Event.{Event}
 use Rattle.brd_board.specs.declared.event.Event.TheVariants.{Step}
-use Rattle.brd_board.specs.Board.{BoardState, after, fault_of, task_of}
+use Rattle.brd_board.specs.Board.{BoardState, after, fault_of, registers_of, task_of}
 use Rattle.brd_explore.specs.Schedules.{does}
 use Rattle.brd_explore.specs.declared.bounds.Bounds.{Bounds}
 use Rattle.brd_explore.specs.declared.wanted.Failure.{Failure}
@@ -68,6 +69,11 @@ abbrev pub is_between : ℕ → ℕ → Option ℕ → Bool
 is_between least most None = false
 is_between least most (Some word) = nat_le least word && nat_le word most
 
+-- the instruction at an address is the next one in a context
+abbrev pub is_at : ℕ → Option State → Bool
+is_at address None = false
+is_at address (Some context) = context.pc == address
+
 -- a text begins with another one, or is it
 abbrev pub begins_with : List ℕ → List ℕ → Bool
 begins_with text front = starts_with ◌==◌ text front
@@ -80,6 +86,7 @@ fails_by_now b (failure.Console text) = not (begins_with text b.kernel.console)
 fails_by_now b (failure.Word address value) = false
 fails_by_now b (failure.Outside address least most) = not (is_between least most (word_of b address))
 fails_by_now b failure.On = false
+fails_by_now b (failure.At address) = some_below 9 (λ cpu. is_at address (registers_of b cpu))
 
 -- a board shows a failure where it is the last one: the console lacks something, a word has another value, it is on
 unfoldable pub fails_at_last : BoardState → Failure → Bool
@@ -89,6 +96,7 @@ fails_at_last b (failure.Console text) = not (begins_with b.kernel.console text)
 fails_at_last b (failure.Word address value) = not (is_value value (word_of b address))
 fails_at_last b (failure.Outside address least most) = false
 fails_at_last b failure.On = not b.kernel.off
+fails_at_last b (failure.At address) = false
 
 -- A board shows one of the failures.
 unfoldable pub fails_now : Wanted → BoardState → Bool

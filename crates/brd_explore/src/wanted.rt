@@ -18,6 +18,7 @@ ghost use Rattle.brd_explore.specs.Failures.{
   has_due,
   word_of,
   is_value,
+  is_at,
   is_between,
   begins_with,
   has_fault,
@@ -28,13 +29,14 @@ ghost use Rattle.brd_explore.specs.Failures.{
   first_so,
   shown_failure,
 };
-ghost use Rattle.brd_board.specs.Board.{task_of};
+ghost use Rattle.brd_board.specs.Board.{registers_of, task_of};
 ghost use Rattle.brd_explore.specs.Shrinking.{fails_after};
 
 use crate::asleep::executes;
 use crate::bounds::{Bounds, did_nothing};
 use brd_base::{List, NoMemory};
 use brd_board::{Board, Event, TaskId};
+use brd_exec::Context;
 use brd_word::word_of;
 
 /// Something that is not to happen.
@@ -65,6 +67,11 @@ pub enum Failure {
     },
     /// At the end the board is on.
     On,
+    /// The instruction at an address is the next one of who executes on some processor.
+    At {
+        /// The address.
+        address: u32,
+    },
 }
 
 /// What is not to happen, and how a schedule goes on after its end, before its end is judged.
@@ -254,6 +261,7 @@ impl Failure {
                 least,
                 most,
             } => Ok(!is_between(*least, *most, word_at(board, *address))),
+            Failure::At { address } => Ok(some_are_at(board, *address)),
             Failure::Word { .. } | Failure::On => Ok(false),
         }
     }
@@ -264,7 +272,8 @@ impl Failure {
         ensures { result ≡ fails_at_last board.now self.now }
     {
         match self {
-            Failure::Exception | Failure::Deadlock | Failure::Outside { .. } => false,
+            Failure::Exception | Failure::Deadlock => false,
+            Failure::Outside { .. } | Failure::At { .. } => false,
             Failure::Console(text) => !board.console().starts_with(text.as_slice()),
             Failure::Word { address, value } => !is_value(*value, word_at(board, *address)),
             Failure::On => !board.is_off(),
@@ -282,6 +291,28 @@ fn has_fault(board: &Board) -> bool
         }
     }
     false
+}
+
+/// Whether the instruction at an address is the next one of who executes on some processor.
+fn some_are_at(board: &Board, address: u32) -> bool
+    ensures { result ≡ some_below 9 (λ cpu. is_at address (registers_of board.now cpu)) }
+{
+    for cpu in 0..9u8 {
+        if is_at(address, board.registers(cpu)) {
+            return true;
+        }
+    }
+    false
+}
+
+/// Whether the instruction at an address is the next one in a context.
+fn is_at(address: u32, context: Option<Context>) -> bool
+    ensures { result ≡ is_at address (option_map (λ it. it.now) context) }
+{
+    match context {
+        Some(context) => context.pc() == address,
+        None => false,
+    }
 }
 
 /// Whether a board is on, some task waits, and nothing that the board does by itself ends that.

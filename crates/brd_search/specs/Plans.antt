@@ -22,7 +22,7 @@ use Rattle.brd_explore.specs.declared.wanted.Wanted.{Wanted}
 use Rattle.brd_search.specs.Escapes.{bytes_of}
 use Rattle.brd_search.specs.declared.fault.SearchFault.{SearchFault}
 use Rattle.brd_search.specs.declared.fault.SearchFault.TheVariants.{NoMemory, Events, Fair, Remember, Lines, NoLines}
-use Rattle.brd_search.specs.declared.fault.SearchFault.TheVariants.{Twice, NoHandler, Places}
+use Rattle.brd_search.specs.declared.fault.SearchFault.TheVariants.{Twice, NoHandler, Places, Reach}
 use Rattle.brd_search.specs.declared.fault.SearchFault.TheVariants.{Word, NoSymbol, Console, Shard, Raises as BadRaises}
 use Rattle.brd_search.specs.declared.raises.Raises.{Raises}
 use Rattle.brd_search.specs.declared.options.Looks.{Looks}
@@ -219,9 +219,24 @@ abbrev pub consoles_of : Option (List ℕ) → Option (List Failure)
 consoles_of None = Some []
 consoles_of (Some text) = option_map (λ bytes. failure.Console bytes ∷ []) (bytes_of text)
 
+-- the address of a place of an instruction
+abbrev pub place_of : List Symbol → List ℕ → Option ℕ
+place_of symbols place = if begins_with_digit place then number_of place else symbol_value symbols place
+
+-- the failure that a place of `--reach` looks for
+abbrev pub reach_of : List Symbol → List ℕ → Result Failure SearchFault
+reach_of symbols place = or_fault Reach (option_map (λ address. failure.At address) (place_of symbols place))
+
+-- the failures that `--reach` looks for, each by a piece of its text
+abbrev pub reaches_of : List Symbol → Option (List ℕ) → Result (List Failure) SearchFault
+reaches_of symbols None = Ok []
+reaches_of symbols (Some text) = each_of (reach_of symbols) (pieces_of text)
+
 -- the options don't say what is looked for
 abbrev pub says_nothing : Looks → Bool
-says_nothing looks = not (looks.exception || looks.deadlock || looks.on || is_some looks.words || is_some looks.console)
+says_nothing looks =
+    not (looks.exception || looks.deadlock || looks.on || is_some looks.words || is_some looks.console
+    || is_some looks.reach)
 
 -- a failure, where it is looked for
 abbrev pub where_so : Bool → Failure → List Failure
@@ -241,7 +256,9 @@ pub record AreLooked (looks : Looks) (symbols : List Symbol) (failures : List Fa
   pub are_words : goals_of symbols (text_of looks.words) ≡ Ok words
   pub console : List Failure
   pub is_console : consoles_of (text_of looks.console) ≡ Some console
-  pub all : failures ≡ kinds_of looks ++ words ++ console
+  pub reaches : List Failure
+  pub are_reaches : reaches_of symbols (text_of looks.reach) ≡ Ok reaches
+  pub all : failures ≡ kinds_of looks ++ words ++ console ++ reaches
 
 -- what is looked for, and the fair end: so many rounds, and at most 20,000
 pub record IsWanted (looks : Looks) (fair cpus : ℕ) (symbols : List Symbol) (wanted : Wanted) : Type 0 where
@@ -257,6 +274,7 @@ KeepsFromWanting looks fair symbols Fair = 20000 < fair
 KeepsFromWanting looks fair symbols Word = goals_of symbols (text_of looks.words) ≡ Err Word
 KeepsFromWanting looks fair symbols NoSymbol = goals_of symbols (text_of looks.words) ≡ Err NoSymbol
 KeepsFromWanting looks fair symbols Console = consoles_of (text_of looks.console) ≡ None
+KeepsFromWanting looks fair symbols Reach = reaches_of symbols (text_of looks.reach) ≡ Err Reach
 KeepsFromWanting looks fair symbols _ = ⊥
 
 -- ---- the plan
@@ -275,7 +293,7 @@ bounds_of options said = record {
 abbrev pub is_plain : SearchOptions → Bool
 is_plain options =
     options.sizes.fair == 0 && options.remember == 0 && not options.shortest
-    && not (is_some (text_of options.shard))
+    && not (is_some (text_of options.shard)) && not (is_some (text_of options.looks.reach))
 
 -- they don't ask for such a search, or for nothing else
 abbrev pub places_fit : SearchOptions → Bool
@@ -395,6 +413,17 @@ IsOfGoals symbols words Word = goals_of symbols words ≡ Err Word
 IsOfGoals symbols words NoSymbol = goals_of symbols words ≡ Err NoSymbol
 IsOfGoals symbols words _ = ⊥
 
+-- the fault of a place of `--reach`
+abbrev pub IsOfReach : SearchFault → Type 0
+IsOfReach Reach = Unit {0}
+IsOfReach _ = ⊥
+
+-- the fault of `--reach`
+abbrev pub IsOfReaches : List Symbol → Option (List ℕ) → SearchFault → Type 0
+IsOfReaches symbols places NoMemory = Unit {0}
+IsOfReaches symbols places Reach = reaches_of symbols places ≡ Err Reach
+IsOfReaches symbols places _ = ⊥
+
 -- the fault of `--lines`
 abbrev pub IsOfRaises : ℕ → Option (List ℕ) → SearchFault → Type 0
 IsOfRaises most lines NoMemory = Unit {0}
@@ -420,6 +449,7 @@ IsOfLooks looks symbols NoMemory = Unit {0}
 IsOfLooks looks symbols Word = goals_of symbols (text_of looks.words) ≡ Err Word
 IsOfLooks looks symbols NoSymbol = goals_of symbols (text_of looks.words) ≡ Err NoSymbol
 IsOfLooks looks symbols Console = consoles_of (text_of looks.console) ≡ None
+IsOfLooks looks symbols Reach = reaches_of symbols (text_of looks.reach) ≡ Err Reach
 IsOfLooks looks symbols _ = ⊥
 
 -- the wanted console stands behind what was there before

@@ -46,6 +46,10 @@ pub enum SearchFault {
     /// The text of the console has a backslash that begins no escape.
     #[error("--console has a text, in which \\n, \\r, \\t, \\\\ and \\xHH stand for a byte")]
     Console,
+    /// A place of an instruction isn't one.
+    #[error("--reach has places of instructions with commas between them, each a symbol of the object file, or 0x and a \
+         hexadecimal address")]
+    Reach,
     /// A journal that is made shorter has more events than it may have.
     #[error("the journal has more than 1,000,000 events")]
     Journal,
@@ -53,13 +57,13 @@ pub enum SearchFault {
     #[error("--out names the object file or the configuration")]
     OverInput,
     /// A search without bounds is to do what it doesn't know.
-    #[error("--places goes with none of --fair, --remember, --shard and --shortest")]
+    #[error("--places goes with none of --fair, --reach, --remember, --shard and --shortest")]
     Places,
     /// A search without bounds has come to no answer: there are more places.
     #[error("not known: there are more than --places places")]
     MorePlaces,
-    /// There is a block without end, or nearly so.
-    #[error("not known: a processor executes 10,000,000 instructions in a row that no other can see")]
+    /// There is a block nearly without end, which isn't a loop.
+    #[error("not known: a processor executes 16,777,216 instructions in a row that no other can see")]
     LongBlock,
     /// A task is ended by another one.
     #[error("not known: a task ends another one by ter_tsk; a search within bounds knows that call")]

@@ -2,7 +2,8 @@
 
 ghost use Rattle.std.specs.Prelude.{◌≡◌, IfErr, OnOk};
 ghost use Rattle.brd_search.specs.Plans as plans;
-ghost use Rattle.brd_search.specs.Plans.{Adds, IsOfGoal, IsOfGoals, goals_of, parts_of, text_of};
+ghost use Rattle.brd_search.specs.Plans.{Adds, IsOfGoal, IsOfGoals, IsOfReach, IsOfReaches, goals_of, parts_of};
+ghost use Rattle.brd_search.specs.Plans.{reaches_of, text_of};
 
 use crate::fault::SearchFault;
 use brd_base::List;
@@ -44,6 +45,63 @@ fn add_goals(
         };
         rest = left;
     }
+}
+
+/// Adds the failures that the places of an option look for.
+pub(crate) fn add_reaches(
+    failures: &mut List<Failure>,
+    places: Option<&str>,
+    symbols: &[Symbol],
+) -> Result<(), SearchFault>
+    ensures ok { OnOk result (Adds (reaches_of symbols.now (text_of places.entry)) failures.old failures.new) }
+    ensures err { IfErr result (IsOfReaches symbols.now (text_of places.entry)) }
+{
+    match places {
+        Some(text) => add_places(failures, text.as_bytes(), symbols),
+        None => Ok(()),
+    }
+}
+
+/// Adds for each place between the commas of a text the failure that is looked for.
+fn add_places(
+    failures: &mut List<Failure>,
+    text: &[u8],
+    symbols: &[Symbol],
+) -> Result<(), SearchFault>
+    ensures ok { OnOk result (Adds (reaches_of symbols.now (Some text.now)) failures.old failures.new) }
+    ensures err { IfErr result (IsOfReaches symbols.now (Some text.now)) }
+{
+    let mut rest = text;
+    'pieces: loop {
+        let (place, after) = piece(rest);
+        let failure = reach_of(place, symbols)?;
+        failures.push(failure)?;
+        let Some(left) = after else {
+            return Ok(());
+        };
+        rest = left;
+    }
+}
+
+/// The failure that a place looks for.
+fn reach_of(place: &[u8], symbols: &[Symbol]) -> Result<Failure, SearchFault>
+    ensures is { result ≡ plans.reach_of symbols.now place.now }
+    ensures fault { IfErr result IsOfReach }
+{
+    let Some(address) = place_of(place, symbols) else {
+        return Err(SearchFault::Reach);
+    };
+    Ok(Failure::At { address })
+}
+
+/// The address of a place: a number where it begins with a digit, or the value of a symbol.
+fn place_of(place: &[u8], symbols: &[Symbol]) -> Option<u32>
+    ensures { result ≡ plans.place_of symbols.now place.now }
+{
+    if begins_with_digit(place) {
+        return number(place);
+    }
+    symbol_value(symbols, place)
 }
 
 /// The failure that `PLACE=VALUE` or `PLACE=LEAST..MOST` looks for.

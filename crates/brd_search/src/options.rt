@@ -27,6 +27,8 @@ pub struct Looks<'a> {
     /// A console that isn't as it should be, as `done\n`: `\n`, `\r`, `\t`, `\\` and `\xHH`, with two hexadecimal
     /// digits, stand for a byte.
     pub console: Option<&'a str>,
+    /// Who comes to an instruction at one of these places, as `lost,0x80000010`.
+    pub reach: Option<&'a str>,
 }
 
 /// The options of a search.

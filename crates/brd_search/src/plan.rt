@@ -92,7 +92,8 @@ pub fn plan_of(
     })
 }
 
-/// A search without bounds goes through the whole, and to no fair end; it finds what it finds, and remembers all places.
+/// A search without bounds goes through the whole, and to no fair end; it finds what it finds, remembers all places, and
+/// sees no single instructions.
 fn check_places(options: &SearchOptions<'_>) -> Result<(), SearchFault>
     ensures { MatchResult result (λ _. places_fit options.now ≡ true) (DontFit options.now) }
 {
@@ -106,7 +107,11 @@ fn check_places(options: &SearchOptions<'_>) -> Result<(), SearchFault>
 fn is_plain(options: &SearchOptions<'_>) -> bool
     ensures { result ≡ is_plain options.now }
 {
-    options.sizes.fair == 0 && options.remember == 0 && !options.shortest && options.shard.is_none()
+    options.sizes.fair == 0
+        && options.remember == 0
+        && !options.shortest
+        && options.shard.is_none()
+        && options.looks.reach.is_none()
 }
 
 /// The bounds that options give, with these raises. They ask neither for too many events nor for too much that is

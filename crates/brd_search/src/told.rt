@@ -150,6 +150,10 @@ fn put_kind(
             put(out, " that isn't ")?;
             put_range(alloc, *least, *most, out)
         }
+        Failure::At { address } => {
+            put(out, "a processor at ")?;
+            write_place(symbols, *address, out)
+        }
     }
 }
 
@@ -297,7 +301,25 @@ pub fn put_failure(
             put(out, ", not ")?;
             put_range(alloc, *least, *most, out)
         }
+        Failure::At { address } => {
+            put(out, "processor ")?;
+            put_number(alloc, out, u64::from(first_at(board, *address)))?;
+            put(out, " is at ")?;
+            write_place(symbols, *address, out)
+        }
     }
+}
+
+/// The first processor on which the instruction at an address is the next one; 0 if there is none.
+fn first_at(board: &Board, address: u32) -> u8 {
+    for cpu in 1..9u8 {
+        if let Some(context) = board.registers(cpu) {
+            if context.pc() == address {
+                return cpu;
+            }
+        }
+    }
+    0
 }
 
 /// Puts at the end what a word is.

@@ -7,7 +7,7 @@ ghost use Rattle.brd_search.specs.Plans.{IsOfConsoles, says_nothing, text_of, wh
 use crate::coming::round;
 use crate::console::bytes_of;
 use crate::fault::SearchFault;
-use crate::goals::add_words;
+use crate::goals::{add_reaches, add_words};
 use crate::options::Looks;
 use brd_base::{List, NoMemory};
 use brd_explore::{Failure, Wanted};
@@ -57,6 +57,7 @@ fn failures_of(
     let mut failures = kinds_of(alloc, looks)?;
     add_words(&mut failures, looks.words, symbols)?;
     add_console(alloc, &mut failures, looks.console)?;
+    add_reaches(&mut failures, looks.reach, symbols)?;
     Ok(failures)
 }
 
@@ -80,7 +81,8 @@ fn says_nothing(looks: &Looks<'_>) -> bool
         || looks.deadlock
         || looks.on
         || looks.words.is_some()
-        || looks.console.is_some())
+        || looks.console.is_some()
+        || looks.reach.is_some())
 }
 
 /// Adds a failure where it is looked for.

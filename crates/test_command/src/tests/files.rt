@@ -149,6 +149,7 @@ const LOOKS: Looks<'static> = Looks {
     on: false,
     words: None,
     console: None,
+    reach: None,
 };
 
 /// The options of a search of schedules of one event.

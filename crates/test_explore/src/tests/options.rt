@@ -22,6 +22,7 @@ const LOOKS: Looks = Looks {
     on: false,
     words: None,
     console: None,
+    reach: None,
 };
 
 const OPTIONS: SearchOptions = SearchOptions {

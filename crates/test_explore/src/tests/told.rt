@@ -29,6 +29,7 @@ const LOST: Looks = Looks {
     on: false,
     words: Some("0x80000000=2"),
     console: None,
+    reach: None,
 };
 
 const DEAD: Looks = Looks {
@@ -37,6 +38,7 @@ const DEAD: Looks = Looks {
     on: false,
     words: None,
     console: None,
+    reach: None,
 };
 
 const CASES: &[Case] = &[
