@@ -27,7 +27,8 @@
 #   make hunt           does the events of JOURNAL in TRIES other orders, and keeps the first that fails; TIME=60: in as
 #                       many as there are seconds for
 #   make explore        searches all schedules within bounds for one under which the test of JOURNAL fails; TIME=60:
-#                       with more and more preemptions, and says after so many seconds what is known
+#                       with more and more preemptions, and says after so many seconds what is known; PLACES=1000000:
+#                       all schedules, however many events and preemptions they have
 #   make shrink         leaves events out of the schedule that was found, as long as it fails
 #   make clean
 #
@@ -68,6 +69,7 @@ PREEMPTIONS ?=
 TICKS ?=
 RAISES ?=
 RAISED ?=
+PLACES ?=
 FAIR ?= 0
 LOOK ?=
 GDB ?= gdb-multiarch
@@ -276,7 +278,7 @@ hunt: all
 explore: all
 	@$(SDK)/explore $(BOARD) $(IMAGE) $(CONFIGURATION) $(JOURNAL) $(BUILD)/explore.journal --events '$(EVENTS)' \
 	    --preemptions '$(PREEMPTIONS)' --ticks '$(TICKS)' --raises '$(RAISES)' --lines '$(RAISED)' \
-	    --fair '$(FAIR)' --look '$(LOOK)' --time '$(TIME)'
+	    --places '$(PLACES)' --fair '$(FAIR)' --look '$(LOOK)' --time '$(TIME)'
 
 shrink: all
 	@$(SDK)/explore --shrink $(BOARD) $(IMAGE) $(CONFIGURATION) $(JOURNAL) $(BUILD)/explore.journal \
