@@ -20,7 +20,7 @@ use Rattle.brd_explore.specs.Sharing.{IsFirst, NoneOnBranches, BeginsHere, Searc
 use Rattle.brd_explore.specs.Sleeping.{awake}
 use Rattle.brd_explore.proofs.AwakeLemmas.{none-awake}
 use Rattle.brd_explore.proofs.SearchLemmas.{does-or, after-doing, after-nothing, none-from}
-use Rattle.brd_explore.proofs.PathLemmas.{leads-on, found-here, found-now}
+use Rattle.brd_explore.proofs.PathLemmas.{leads-on, found-now}
 use Rattle.brd_explore.proofs.LessLemmas.{left-after}
 
 -- the code reads events at another default

@@ -307,7 +307,7 @@ fn some_are_at(board: &Board, address: u32) -> bool
 
 /// Whether the instruction at an address is the next one in a context.
 fn is_at(address: u32, context: Option<Context>) -> bool
-    ensures { result ≡ is_at address (option_map (λ it. it.now) context) }
+    ensures { result ≡ is_at address context }
 {
     match context {
         Some(context) => context.pc() == address,

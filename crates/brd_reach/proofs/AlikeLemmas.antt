@@ -1,5 +1,5 @@
 -- Boards of which one lags behind the other by invisible instructions fail alike.
-use Rattle.std.proofs.Common.{◌≡◌, ℕ, ◌+◌, ◌-◌, ◌≤◌, ◌<◌, Bool, true, false, not, List, [], ◌∷◌, length, refl, sym, ap, subst, ◌∙◌, arith}
+use Rattle.std.proofs.Common.{◌≡◌, ℕ, ◌+◌, ◌-◌, ◌≤◌, Bool, true, false, not, List, [], ◌∷◌, refl, sym, ap, subst, ◌∙◌, arith}
 use Rattle.std.specs.Prelude.{◌%◌, ◌^◌, ◌==◌, ◌&&◌, ◌||◌, if◌then◌else◌, nat_lt, slice_index, slice_index_or, Option, None, Some, is_some}
 use Rattle.std.specs.Option.{option_map}
 use Rattle.std.specs.List.{All, list_any}
@@ -29,10 +29,10 @@ use Rattle.brd_explore.specs.declared.wanted.Failure.{Failure}
 use Rattle.brd_explore.specs.declared.wanted.Failure.TheVariants as failure
 use Rattle.brd_explore.specs.declared.wanted.Wanted.{Wanted}
 use Rattle.brd_explore.specs.Schedules.{does}
-use Rattle.brd_explore.specs.Failures.{some_below, has_fault, nobody_goes, waits, has_due, some_are_due, is_stuck, word_in, word_of, is_value, is_between, begins_with, fails_by_now, fails_at_last, fails_now, lacks, is_at_rest, is_end, is_cut, fails_fairly, goes_fairly, fails_at}
+use Rattle.brd_explore.specs.Failures.{some_below, nobody_goes, waits, has_due, some_are_due, is_stuck, word_in, word_of, is_value, is_between, begins_with, fails_by_now, fails_at_last, fails_now, lacks, is_at_rest, is_end, is_cut, fails_fairly, goes_fairly, fails_at}
 use Rattle.brd_frames.specs.Agents as agents
 use Rattle.brd_frames.specs.Agents.{Agent, context_in, with_context_in}
-use Rattle.brd_frames.specs.Touching.{touches, stores, changed, put_at}
+use Rattle.brd_frames.specs.Touching.{stores, changed, put_at}
 use Rattle.brd_frames.specs.Lagging.{Sharing, IsInvisible, Lags}
 use Rattle.brd_frames.proofs.DeedLemmas.{get-bytes}
 use Rattle.brd_frames.proofs.FootprintLemmas.{PutsAt, put-keeps, put-length, stores-touches}

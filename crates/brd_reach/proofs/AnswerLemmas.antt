@@ -1,10 +1,10 @@
 -- What failures watch stays shared, and what a search answers.
-use Rattle.std.proofs.Common.{◌≡◌, ℕ, Bool, true, false, List, [], ◌∷◌, length, refl, sym, ap, subst, ◌∙◌, ◌⊎◌, inl, inr, arith}
+use Rattle.std.proofs.Common.{◌≡◌, ℕ, Bool, true, false, List, [], ◌∷◌, length, refl, sym, subst, ◌∙◌, ◌⊎◌, inl, inr, arith}
 use Rattle.std.proofs.lemmas.Bool.{false≢true}
-use Rattle.std.specs.Prelude.{◌<◌, ◌+◌, get_or, ◌%◌, ◌^◌, ◌==◌, ◌&&◌, ◌||◌, not, nat_lt, if◌then◌else◌, slice_get, Some}
+use Rattle.std.specs.Prelude.{◌<◌, ◌+◌, get_or, ◌%◌, ◌^◌, ◌==◌, ◌&&◌, ◌||◌, not, nat_lt, if◌then◌else◌}
 use Rattle.std.specs.List.{All}
 use Rattle.brd_board.specs.declared.event.Event.{Event}
-use Rattle.brd_board.specs.Board.{BoardState, after}
+use Rattle.brd_board.specs.Board.{BoardState}
 use Rattle.brd_explore.specs.declared.bounds.Bounds.{Bounds}
 use Rattle.brd_explore.specs.declared.wanted.Failure.{Failure}
 use Rattle.brd_explore.specs.declared.wanted.Failure.TheVariants as failure
@@ -22,7 +22,7 @@ use Rattle.brd_blocks.proofs.LinkLemmas.{stays-set}
 use Rattle.brd_places.specs.declared.left.Left.{Left}
 use Rattle.brd_frames.proofs.ReduceLemmas.{reduced}
 use Rattle.brd_places.specs.Places.{Place}
-use Rattle.brd_reach.specs.Rounds.{AreDone, IsMore, IsPlace}
+use Rattle.brd_reach.specs.Rounds.{AreDone, IsMore}
 use Rattle.brd_reach.proofs.ReachLemmas.{none-fails}
 use Rattle.brd_reach.proofs.RoundLemmas.{closed, get-more, IsGoodPlace}
 use Rattle.brd_reach.specs.Reaching.{Guards, IsGuarded, IsSharedWord, bounds_of, fails_there}
@@ -42,6 +42,7 @@ guarded-stays old new (failure.Console text) stays it = tt
 guarded-stays old new (failure.Word address value) stays it = word-stays old new address stays it
 guarded-stays old new (failure.Outside address least most) stays it = word-stays old new address stays it
 guarded-stays old new failure.On stays it = tt
+guarded-stays old new (failure.At address) stays it = absurd it
 
 pub all-stay : (old new : Sharing) (failures : List Failure) → StaysShared old new → All (IsGuarded old) failures → All (IsGuarded new) failures
 all-stay old new failures stays all = λ k d less. guarded-stays old new (get_or failures k d) stays (all k d less)

@@ -1,11 +1,11 @@
 -- Where no place of a closed tree fails, no schedule does.
-use Rattle.std.proofs.Common.{◌≡◌, ℕ, List, refl, sym, subst, ◌∙◌}
+use Rattle.std.proofs.Common.{refl, sym, subst, ◌∙◌}
 use Rattle.std.proofs.lemmas.Bool.{false≢true}
-use Rattle.brd_board.specs.Board.{BoardState, after}
+use Rattle.brd_board.specs.Board.{after}
 use Rattle.brd_explore.specs.Schedules.{Place, start, place_after}
 use Rattle.brd_frames.specs.Reducing.{Reaches, ReductionLaw}
 use Rattle.brd_places.specs.declared.left.Left.{Left}
-use Rattle.brd_reach.specs.Reaching.{bounds_of, pays, IsClosed, ClosedLaw}
+use Rattle.brd_reach.specs.Reaching.{bounds_of, pays, ClosedLaw}
 use Rattle.brd_reach.proofs.WayLemmas.{left_of, Way, way}
 use Rattle.brd_reach.proofs.AlikeLemmas.{Alike, alike-lags, fails-alike}
 

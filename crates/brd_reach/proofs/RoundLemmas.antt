@@ -5,32 +5,24 @@ use Rattle.std.proofs.lemmas.Option.{slice_get_within}
 use Rattle.std.proofs.lemmas.Bool.{false≢true}
 use Rattle.brd_base.specs.declared.no_memory.NoMemory.{NoMemory}
 use Rattle.std.proofs.lemmas.List.{get_or_default}
-use Rattle.std.specs.Prelude.{get_or, Result, Ok, Err, IfOk, OnOk, OnErr, ◌+◌, ◌-◌, ◌<◌, ◌≤◌, nat_lt, if◌then◌else◌, slice_get, replicate, Option, None, Some}
-use Rattle.std.specs.List.{All}
+use Rattle.std.specs.Prelude.{get_or, Result, Ok, Err, IfOk, OnOk, OnErr, ◌+◌, ◌-◌, ◌<◌, ◌≤◌, nat_lt, if◌then◌else◌, slice_get, None, Some}
 use Rattle.brd_link.specs.LinkSet.{IsLinkSet}
-use Rattle.brd_kernel.specs.declared.processor.Executor.{Executor}
 use Rattle.brd_kernel.specs.declared.processor.Executor.TheVariants as executor
-use Rattle.brd_kernel.specs.Kernel.{executor_on}
 use Rattle.brd_board.specs.declared.event.Event.{Event}
 use Rattle.brd_board.specs.declared.event.Event.TheVariants.{Step, Tick, Raise}
-use Rattle.brd_board.specs.Board.{BoardState, happens, after}
+use Rattle.brd_board.specs.Board.{BoardState, happens}
 use Rattle.brd_explore.specs.declared.wanted.Wanted.{Wanted}
-use Rattle.brd_explore.specs.Schedules.{IsAmong, event_at, start}
-use Rattle.brd_explore.specs.Searching.{NoneFails}
-use Rattle.brd_frames.specs.Agents.{Agent}
-use Rattle.brd_frames.specs.Apart.{Terminates}
-use Rattle.brd_frames.specs.Going.{IsNext}
-use Rattle.brd_frames.specs.Commuting.{EndsNoLink}
-use Rattle.brd_frames.specs.Lagging.{Sharing, Keeps, IsInvisible, Path}
-use Rattle.brd_frames.specs.Reducing.{IsQuiet, IsTree}
+use Rattle.brd_explore.specs.Schedules.{IsAmong, event_at}
+use Rattle.brd_frames.specs.Lagging.{Sharing}
+use Rattle.brd_frames.specs.Reducing.{IsQuiet}
 use Rattle.brd_frames.proofs.ReduceLemmas.{like-path}
-use Rattle.brd_blocks.specs.Stepping.{AllStandWell, LinkSetLaw}
+use Rattle.brd_blocks.specs.Stepping.{LinkSetLaw}
 use Rattle.brd_places.specs.Places.{Place}
 use Rattle.brd_places.specs.declared.left.Left.{Left}
 use Rattle.brd_reach.specs.declared.visit.Tried.{Tried}
 use Rattle.brd_reach.specs.declared.visit.Tried.TheVariants as tried
-use Rattle.brd_reach.specs.Reaching.{Guards, IsClosed, pays, fails_there, bounds_of}
-use Rattle.brd_reach.specs.Rounds.{AreDone, Blocks, HasStepped, HasTried, HaveTried, IsAt, IsDone, IsMore, IsPaid, IsPlace, LeadsTo, TriedSo, paid}
+use Rattle.brd_reach.specs.Reaching.{Guards, IsClosed, pays}
+use Rattle.brd_reach.specs.Rounds.{AreDone, Blocks, HasStepped, HasTried, HaveTried, IsAt, IsDone, IsMore, IsPaid, IsPlace, LeadsTo, TriedSo}
 
 -- More places.
 

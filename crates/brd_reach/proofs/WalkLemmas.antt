@@ -1,22 +1,19 @@
 -- Blocks: walks of invisible instructions, and where they end.
 use Rattle.std.proofs.Common.{◌≡◌, ℕ, zero, suc, true, false, refl, sym, ap, subst, ◌∙◌, ◌⊎◌, inl, inr, arith}
-use Rattle.std.specs.Prelude.{◌+◌, ◌-◌, ◌<◌, ◌≤◌, List, [], ◌∷◌, ◌++◌, replicate, Option, None, Some}
+use Rattle.std.specs.Prelude.{◌+◌, ◌<◌, replicate, Some}
 use Rattle.std.specs.Option.{option_map}
 use Rattle.brd_link.specs.LinkSet.{IsLinkSet}
-use Rattle.brd_kernel.specs.declared.processor.Executor.{Executor}
-use Rattle.brd_kernel.specs.Kernel.{executor_on}
-use Rattle.brd_board.specs.declared.event.Event.{Event}
 use Rattle.brd_board.specs.declared.event.Event.TheVariants.{Step}
 use Rattle.brd_board.specs.Board.{BoardState, happens, after}
 use Rattle.brd_frames.specs.Agents.{Agent, agent_by}
-use Rattle.brd_frames.specs.Apart.{Executes, Terminates}
+use Rattle.brd_frames.specs.Apart.{Terminates}
 use Rattle.brd_frames.specs.Going.{IsNext}
-use Rattle.brd_frames.specs.Commuting.{agent_goes, EndsNoLink}
+use Rattle.brd_frames.specs.Commuting.{EndsNoLink}
 use Rattle.brd_frames.specs.Lagging.{Sharing, Keeps, IsInvisible, Path}
 use Rattle.brd_frames.specs.Reducing.{IsQuiet}
-use Rattle.brd_frames.proofs.ReduceLemmas.{Like, like-invisible, like-path, like-next}
-use Rattle.brd_blocks.specs.Stepping.{AllStandWell, IsIdle, IsHidden, IsVisible}
-use Rattle.brd_reach.specs.Rounds.{Blocks, LeadsTo, HasWalked}
+use Rattle.brd_frames.proofs.ReduceLemmas.{like-invisible, like-path, like-next}
+use Rattle.brd_blocks.specs.Stepping.{AllStandWell, IsHidden, IsVisible}
+use Rattle.brd_reach.specs.Rounds.{LeadsTo, HasWalked}
 
 -- Who is next.
 

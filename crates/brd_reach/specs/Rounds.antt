@@ -1,5 +1,5 @@
 -- What a search through places has done at one of them. (Contracts of private functions alone name this.)
-use Rattle.std.specs.Prelude.{◌≡◌, ◌⊎◌, ℕ, suc, ◌<◌, ◌≤◌, true, false, List, [], ◌∷◌, ◌++◌, length, replicate, slice_get}
+use Rattle.std.specs.Prelude.{◌≡◌, ◌⊎◌, ℕ, ◌<◌, ◌≤◌, true, false, List, ◌++◌, length, replicate, slice_get}
 use Rattle.std.specs.Prelude.{◌-◌, nat_lt, if◌then◌else◌, Option, Some, None}
 use Rattle.brd_link.specs.LinkSet.{IsLinkSet}
 use Rattle.brd_board.specs.declared.event.Event.{Event}

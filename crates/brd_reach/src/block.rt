@@ -39,8 +39,8 @@ pub(crate) fn go(
     board: &mut Board,
     cpu: u8,
 ) -> Result<Block, NoMemory>
-    ensures { IsLinkSet board.old.links → place.now ≡ board.old →
-        IfOk result (WentBy (sharing_of sharing.now) board.old cpu board.new) }
+    requires { place.now ≡ board.old }
+    ensures { IsLinkSet board.old.links → IfOk result (WentBy (sharing_of sharing.now) board.old cpu board.new) }
 {
     if !stands_well(board, cpu) {
         return Ok(Block::Unknown(Unknown::Waits));

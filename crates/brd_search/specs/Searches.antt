@@ -1,5 +1,5 @@
 -- What a search answers.
-use Rattle.std.specs.Prelude.{◌≡◌, ◌⊎◌, ℕ, ◌-◌, ◌≤◌, ◌<◌, min, Bool, true, List, length, Option, Some, None}
+use Rattle.std.specs.Prelude.{◌≡◌, ◌⊎◌, ℕ, ◌-◌, ◌≤◌, ◌<◌, min, List, length, Option, Some, None}
 use Rattle.brd_board.specs.declared.event.Event.{Event}
 use Rattle.brd_board.specs.Board.{BoardState}
 use Rattle.brd_explore.specs.declared.bounds.Bounds.{Bounds}
@@ -7,7 +7,6 @@ use Rattle.brd_explore.specs.Schedules.{start}
 use Rattle.brd_explore.specs.Searching.{IsFound}
 use Rattle.brd_explore.specs.Shards.{NoneFailsInShard}
 use Rattle.brd_search.specs.declared.plan.Plan.{Plan}
-use Rattle.brd_search.specs.declared.searching.Searched.{Searched}
 
 -- bounds leave no more than others: as many ticks and raises, of which as many are owed, and not more events and
 -- preemptions

@@ -1,4 +1,8 @@
-use Rattle.std.proofs.Common.{sym}
+use Rattle.std.proofs.Common.{sym, subst}
+use Rattle.std.specs.Prelude.{IfOk}
+use Rattle.brd_board.specs.Board.{BoardState}
+use Rattle.brd_blocks.specs.Stepping.{AllStandWell}
+use Rattle.brd_reach.specs.Rounds.{HasWalked, WentBy}
 use Rattle.brd_blocks.specs.Owning.{sharing_of}
 use Rattle.brd_reach.proofs.WalkLemmas.{idle-leads, off-leads, walk-hidden, walk-none, walk-visible}
 use Rattle.brd_reach.proofs.block.go.Goals as goal
@@ -29,6 +33,9 @@ returns-in-Visible c = λ set.
 
 pub returns-in-Invisible : goal.returns-in-Invisible
 returns-in-Invisible c = λ set.
-    c.go_on.ensures c.args.board.now (c.stands_well.ensures.well c.if-not-stands_well.false)
+    subst (λ (b : BoardState). AllStandWell b c.args.cpu → HasWalked (sharing_of c.args.sharing.now) b c.args.cpu 0 b →
+    HasWalked (sharing_of c.args.sharing.now) b c.args.cpu 1 c.step.new.board →
+    IfOk c.go_on.result (WentBy (sharing_of c.args.sharing.now) b c.args.cpu c.go_on.new.board)) c.requires c.go_on.ensures
+    (c.stands_well.ensures.well c.if-not-stands_well.false) (walk-none (sharing_of c.args.sharing.now) c.args.board.now c.args.cpu set)
     (walk-hidden (sharing_of c.args.sharing.now) c.args.board.now c.args.cpu 0 c.args.board.now c.step.new.board
     (walk-none (sharing_of c.args.sharing.now) c.args.board.now c.args.cpu set) (c.in-Invisible.ensures.is set) c.step.ensures.board)

@@ -1,15 +1,6 @@
-use Rattle.brd_reach.proofs.WalkLemmas.{walk-hidden, walk-visible}
-use Rattle.brd_blocks.specs.Owning.{sharing_of}
+use Rattle.std.proofs.Common.{arith}
 use Rattle.brd_reach.proofs.block.go_on.Goals as goal
 
-pub returns-in-Visible : goal.returns-in-Visible
-returns-in-Visible c = λ b well walked.
-    let at = c.loop-count.invariant b walked in
-    walk-visible (sharing_of c.args.sharing.now) b c.args.cpu c.loop-count.count c.loop-count.board c.step.new.board well at
-    (c.in-Visible.ensures.is at.set) c.step.ensures.board
-
-pub loop-count-preserved : goal.loop-count-preserved
-loop-count-preserved c = λ b walked.
-    let at = c.loop-count.invariant b walked in
-    walk-hidden (sharing_of c.args.sharing.now) b c.args.cpu c.loop-count.count c.loop-count.board c.step.new.board at
-    (c.in-Invisible.ensures.is at.set) c.step.ensures.board
+pub returns : goal.returns
+returns c = λ well none walked.
+    c.go_far.ensures c.args.place.now well (c.in_default.ensures c.args.place.now 0 well (omega arith) none walked)

@@ -1,4 +1,4 @@
-use Rattle.std.proofs.Common.{subst, sym, arith, length, ◌<◌}
+use Rattle.std.proofs.Common.{subst, arith}
 use Rattle.brd_blocks.specs.Owning.{sharing_of}
 use Rattle.brd_reach.specs.Rounds.{VisitedSo}
 use Rattle.brd_reach.proofs.RoundLemmas.{done-next, get-more, more-then, there-is}

@@ -1,5 +1,4 @@
-use Rattle.std.proofs.Common.{◌≡◌, ℕ, List, [], ◌∷◌, refl, sym, ap, subst, ◌∙◌, arith}
-use Rattle.std.specs.Prelude.{slice_get, Some}
+use Rattle.std.proofs.Common.{List, [], ◌∷◌, refl, subst, arith}
 use Rattle.brd_places.specs.Places.{Place}
 use Rattle.brd_blocks.specs.Owning.{sharing_of}
 use Rattle.brd_reach.specs.Rounds.{IsMore, RoundSo}

@@ -1,8 +1,8 @@
-use Rattle.std.proofs.Common.{sym, ap, subst, ◌∙◌}
-use Rattle.std.specs.Prelude.{slice_get, Some, replicate}
+use Rattle.std.proofs.Common.{ap, subst, ◌∙◌}
+use Rattle.std.specs.Prelude.{slice_get, replicate}
 use Rattle.brd_board.specs.Board.{after}
 use Rattle.brd_places.specs.Places.{place_after}
-use Rattle.brd_reach.specs.Rounds.{IsMore, IsPlace}
+use Rattle.brd_reach.specs.Rounds.{IsMore}
 use Rattle.brd_reach.proofs.RoundLemmas.{added-more, added-there}
 use Rattle.brd_reach.proofs.visit.note.Goals as goal
 

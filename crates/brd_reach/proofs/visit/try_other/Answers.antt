@@ -1,5 +1,4 @@
 use Rattle.std.proofs.Common.{◌≡◌, sym, ap, subst, ◌∙◌}
-use Rattle.std.specs.Prelude.{Some}
 use Rattle.brd_board.specs.Board.{BoardState, Happened, happens}
 use Rattle.brd_places.specs.declared.left.Left.{Left}
 use Rattle.brd_reach.specs.Rounds.{IsPlace}

@@ -1,7 +1,6 @@
 use Rattle.std.proofs.Common.{subst}
 use Rattle.std.proofs.lemmas.List.{get_or_default}
 use Rattle.brd_board.specs.declared.event.Event.TheVariants.{Step}
-use Rattle.brd_board.specs.declared.event.Event.{Event}
 use Rattle.brd_blocks.specs.Owning.{sharing_of}
 use Rattle.brd_reach.specs.Rounds.{TriedSo}
 use Rattle.brd_reach.proofs.RoundLemmas.{at-same, get-more, more-then, tried-next}
