@@ -204,6 +204,11 @@ says "a schedule that is made shorter" 0 "the schedule is kept as $work/build/sh
 says "all schedules" 0 \
     'none of [0-9]+ schedules fails: at most 100000 events, 2 preemptions, 0 ticks and 0 raises' \
     project "$adders" explore PREEMPTIONS=2
+says "all schedules, without bounds" 0 \
+    "none fails, however many events and preemptions it has: at most 0 ticks and 0 raises" \
+    project "$adders" explore PLACES=1000000
+says "a function that is called" 2 'fails after [0-9]+ events: processor [12] is at add.*' \
+    project "$adders" explore LOOK="--reach add"
 says "sdk/explore without a program" 2 \
     "use: sdk/explore [--shrink] BOARD IMAGE CONFIG NAME.journal [FOUND] OUT [OPTION..]" sdk/explore
 # steps JOURNAL: its other events, and how many steps each processor has before each of them.
