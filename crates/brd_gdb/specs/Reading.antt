@@ -13,6 +13,7 @@ use Rattle.brd_gdb.specs.declared.request.Move.TheVariants as move
 use Rattle.brd_gdb.specs.declared.request.PointKind.{PointKind}
 use Rattle.brd_gdb.specs.declared.request.PointKind.TheVariants.{SoftwareBreak, HardwareBreak, WriteWatch, ReadWatch}
 use Rattle.brd_gdb.specs.declared.request.PointKind.TheVariants.{AccessWatch}
+use Rattle.brd_gdb.specs.declared.request.ThreadKind.{ThreadKind}
 use Rattle.brd_gdb.specs.declared.request.Monitor.{Monitor}
 use Rattle.brd_gdb.specs.declared.request.Monitor.TheVariants as monitor
 use Rattle.brd_gdb.specs.declared.request.Request.{Request}
@@ -198,6 +199,14 @@ monitor_word text =
     (if_is (codes "help") monitor.Help text
     None)))))
 
+abbrev pub monitor_change : List ℕ → Option Monitor
+monitor_change text =
+    if_is (codes "threads tasks") (monitor.Threads ThreadKind.Tasks) text
+    (if_is (codes "threads processors") (monitor.Threads ThreadKind.Processors) text
+    (if_is (codes "reset") (monitor.Goto 0) text
+    (if_is (codes "restart") (monitor.Goto 0) text
+    None)))
+
 abbrev pub monitor_number : List ℕ → Option Monitor
 monitor_number text =
     if_begins (codes "goto ") (λ digits. option_map monitor.Goto (plain_decimal_of digits (2 ^ 64 - 1))) text
@@ -209,7 +218,7 @@ monitor_or None = monitor.Unknown
 monitor_or (Some command) = command
 
 abbrev pub monitor_of : List ℕ → Monitor
-monitor_of text = monitor_or (or_else (monitor_word text) (monitor_number text))
+monitor_of text = monitor_or (or_else (monitor_word text) (or_else (monitor_change text) (monitor_number text)))
 
 abbrev pub monitor_packet_of : List ℕ → Option Request
 monitor_packet_of text =

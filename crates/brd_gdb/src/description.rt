@@ -10,7 +10,8 @@ const MOST_PART: usize = 16_383;
 
 /// No operating system: so GDB asks for single steps, and doesn't set breaks of its own for them, which no processor
 /// comes to from a delay slot. The registers by number: 32 general ones, the status, lo, hi, the bad address, the cause,
-/// the program counter, and those of floating point, without which GDB takes no description of this processor.
+/// the program counter, those of floating point, without which GDB takes no description of this processor, and the
+/// address of the last exception.
 const FEATURES: &[u8] = b"\
     <?xml version='1.0'?>\n\
     <!DOCTYPE target SYSTEM 'gdb-target.dtd'>\n\
@@ -94,6 +95,9 @@ const FEATURES: &[u8] = b"\
     <reg name='f31' bitsize='32' type='ieee_single'/>\n\
     <reg name='fcsr' bitsize='32' regnum='70' group='float'/>\n\
     <reg name='fir' bitsize='32' regnum='71' group='float'/>\n\
+    </feature>\n\
+    <feature name='board.exception'>\n\
+    <reg name='epc' bitsize='32' type='code_ptr' regnum='72'/>\n\
     </feature>\n\
     </target>\n\
 ";

@@ -3,7 +3,7 @@
 ghost use Rattle.std.specs.Prelude.{◌≡◌};
 ghost use Rattle.brd_gdb.specs.Reading as reading;
 
-use crate::request::Monitor;
+use crate::request::{Monitor, ThreadKind};
 use brd_text::plain_decimal;
 
 /// What a text asks for.
@@ -11,6 +11,9 @@ pub fn monitored(text: &[u8]) -> Monitor
     ensures { result ≡ reading.monitor_of text.now }
 {
     if let Some(command) = word(text) {
+        return command;
+    }
+    if let Some(command) = changing(text) {
         return command;
     }
     match numbered(text) {
@@ -40,6 +43,25 @@ fn word(text: &[u8]) -> Option<Monitor>
     }
     if text == b"help".as_slice() {
         return Some(Monitor::Help);
+    }
+    None
+}
+
+/// The command of a text that has no number, and changes something.
+fn changing(text: &[u8]) -> Option<Monitor>
+    ensures { result ≡ reading.monitor_change text.now }
+{
+    if text == b"threads tasks".as_slice() {
+        return Some(Monitor::Threads(ThreadKind::Tasks));
+    }
+    if text == b"threads processors".as_slice() {
+        return Some(Monitor::Threads(ThreadKind::Processors));
+    }
+    if text == b"reset".as_slice() {
+        return Some(Monitor::Goto(0));
+    }
+    if text == b"restart".as_slice() {
+        return Some(Monitor::Goto(0));
     }
     None
 }

@@ -47,11 +47,22 @@ pub enum PointKind {
     AccessWatch,
 }
 
+/// What GDB's threads are (own choice).
+#[derive(Clone, Copy, PartialEq, Eq)]
+pub enum ThreadKind {
+    /// The kernel's tasks, and the handlers that run.
+    Tasks,
+    /// The board's processors.
+    Processors,
+}
+
 /// What the user asks for with GDB's command `monitor` (own choice).
 #[derive(Clone, Copy, PartialEq, Eq)]
 pub enum Monitor {
-    /// `goto N`: to go to a position.
+    /// `goto N`: to go to a position; `reset` and `restart`, to go to the first.
     Goto(u64),
+    /// `threads tasks`, `threads processors`: what GDB's threads are from now on.
+    Threads(ThreadKind),
     /// `where`: the position, and whose step comes.
     Where,
     /// `tasks`: the tasks and their states.
