@@ -12,7 +12,7 @@ use Rattle.brd_journal.specs.Still.{did_nothing, does_no_more, Rests}
 use Rattle.brd_journal.proofs.StillLemmas.{rests, happens-leaves, raise-told}
 use Rattle.brd_debug.specs.declared.stops.Stepper.{Stepper}
 use Rattle.brd_debug.specs.declared.stops.Stops.{Stops}
-use Rattle.brd_debug.specs.Stops.{IsBreak, executes, is_step_of, is_stepped, is_fault, is_done, has_come_out, IsTold, Differs, StopsAt}
+use Rattle.brd_debug.specs.Stops.{IsBreak, executes, is_step_of, is_by, is_stepped, is_fault, is_done, has_come_out, IsTold, Differs, StopsAt}
 use Rattle.brd_debug.specs.Touching.{touches}
 
 -- what has done nothing has executed nothing
@@ -65,40 +65,42 @@ not-moved : (rests out : Bool) → rests ≡ true → (not rests && out) ≡ tru
 not-moved true out none is = false≢true is
 not-moved false out none is = false≢true none
 
-quiet-stepped : (stepper : Option Stepper) (event : Event) (told : Report) (after : BoardState) → executes told ≡ false →
-    does_no_more event told ≡ true → is_stepped stepper event told after ≡ true → ⊥
-quiet-stepped None event told after none rest is = false≢true is
-quiet-stepped (Some (Stepper.Each cpu)) event told after none rest is =
+quiet-stepped : (stepper : Option Stepper) (event : Event) (told : Report) (by : Bool) (after : BoardState) → executes told ≡ false →
+    does_no_more event told ≡ true → is_stepped stepper event told by after ≡ true → ⊥
+quiet-stepped None event told by after none rest is = false≢true is
+quiet-stepped (Some (Stepper.Each cpu)) event told by after none rest is =
     not-run (is_step_of cpu event) (executes told) none is
-quiet-stepped (Some (Stepper.Until cpu who start end)) event told after none rest is =
+quiet-stepped (Some (Stepper.Of who)) event told by after none rest is = not-run by (executes told) none is
+quiet-stepped (Some (Stepper.Until cpu who start end)) event told by after none rest is =
     not-moved (does_no_more event told) (has_come_out cpu who start end after) rest is
 
-quiet : (stops : Stops) (event : Event) (told : Report) (after : BoardState) → (IsBreak stops.breaks told → ⊥) → executes told ≡ false →
-    does_no_more event told ≡ true → IsTold stops event told after → ⊥
-quiet stops event told after first none rest (inl is) = first is
-quiet stops event told after first none rest (inr (inl is)) = quiet-stepped stops.stepper event told after none rest is
-quiet stops event told after first none rest (inr (inr is)) = false≢true (sym (quiet-fault stops.faults told none) ∙ is)
+quiet : (stops : Stops) (event : Event) (told : Report) (by : Bool) (after : BoardState) → (IsBreak stops.breaks told → ⊥) →
+    executes told ≡ false → does_no_more event told ≡ true → IsTold stops event told by after → ⊥
+quiet stops event told by after first none rest (inl is) = first is
+quiet stops event told by after first none rest (inr (inl is)) = quiet-stepped stops.stepper event told by after none rest is
+quiet stops event told by after first none rest (inr (inr is)) = false≢true (sym (quiet-fault stops.faults told none) ∙ is)
 
-quiet-told : (stops : Stops) (event : Event) (told : Report) (after : BoardState) → did_nothing told ≡ true → does_no_more event told ≡ true →
-    IsTold stops event told after → ⊥
-quiet-told stops event told after none = quiet stops event told after (quiet-break stops.breaks told none) (quiet-executes told none)
+quiet-told : (stops : Stops) (event : Event) (told : Report) (by : Bool) (after : BoardState) → did_nothing told ≡ true →
+    does_no_more event told ≡ true → IsTold stops event told by after → ⊥
+quiet-told stops event told by after none = quiet stops event told by after (quiet-break stops.breaks told none) (quiet-executes told none)
 
 -- a line that is raised executes nothing
-raise-quiet : (stops : Stops) (b after : BoardState) (line : ℕ) → IsTold stops (Raise line) (happens b (Raise line)).report after → ⊥
-raise-quiet stops b after line = raise-told (λ told. IsTold stops (Raise line) told after → ⊥) b line
-    (quiet stops (Raise line) report.Off after (λ wrong. wrong) refl refl)
-    (quiet stops (Raise line) report.Raised after (λ wrong. wrong) refl refl)
-    (quiet stops (Raise line) report.NoSuch after (λ wrong. wrong) refl refl)
+raise-quiet : (stops : Stops) (b after : BoardState) (line : ℕ) (by : Bool) →
+    IsTold stops (Raise line) (happens b (Raise line)).report by after → ⊥
+raise-quiet stops b after line by = raise-told (λ told. IsTold stops (Raise line) told by after → ⊥) b line
+    (quiet stops (Raise line) report.Off by after (λ wrong. wrong) refl refl)
+    (quiet stops (Raise line) report.Raised by after (λ wrong. wrong) refl refl)
+    (quiet stops (Raise line) report.NoSuch by after (λ wrong. wrong) refl refl)
 
-told-none : (stops : Stops) (b after : BoardState) (event : Event) → does_no_more event (happens b event).report ≡ true →
-    IsTold stops event (happens (happens b event).board event).report after → ⊥
-told-none stops b after (Step cpu) none is =
-    quiet-told stops (Step cpu) (happens b (Step cpu)).report after none none
-    (subst (λ (x : BoardState). IsTold stops (Step cpu) (happens x (Step cpu)).report after) (happens-leaves b (Step cpu) none) is)
-told-none stops b after Tick none is =
-    quiet-told stops Tick (happens b Tick).report after none none
-    (subst (λ (x : BoardState). IsTold stops Tick (happens x Tick).report after) (happens-leaves b Tick none) is)
-told-none stops b after (Raise line) none is = raise-quiet stops (happens b (Raise line)).board after line is
+told-none : (stops : Stops) (b after : BoardState) (event : Event) (by : Bool) → does_no_more event (happens b event).report ≡ true →
+    IsTold stops event (happens (happens b event).board event).report by after → ⊥
+told-none stops b after (Step cpu) by none is =
+    quiet-told stops (Step cpu) (happens b (Step cpu)).report by after none none
+    (subst (λ (x : BoardState). IsTold stops (Step cpu) (happens x (Step cpu)).report by after) (happens-leaves b (Step cpu) none) is)
+told-none stops b after Tick by none is =
+    quiet-told stops Tick (happens b Tick).report by after none none
+    (subst (λ (x : BoardState). IsTold stops Tick (happens x Tick).report by after) (happens-leaves b Tick none) is)
+told-none stops b after (Raise line) by none is = raise-quiet stops (happens b (Raise line)).board after line by is
 
 differs-none : (watches : List ℕ) (b : BoardState) (event : Event) → Rests b event → Differs watches b.memory (happens b event).board.memory → ⊥
 differs-none watches b event still differs =
@@ -139,7 +141,8 @@ done-none reads accesses b (Step cpu) none is =
 done-none reads accesses b Tick none is = never-done (happens (happens b Tick).board Tick).report is
 done-none reads accesses b (Raise line) none is = never-done (happens (happens b (Raise line)).board (Raise line)).report is
 
-stops-by : (stops : Stops) (b : BoardState) (event : Event) → (IsTold stops event (happens b event).report (happens b event).board → ⊥) →
+stops-by : (stops : Stops) (b : BoardState) (event : Event) →
+    (IsTold stops event (happens b event).report (is_by stops.stepper b event) (happens b event).board → ⊥) →
     (Differs stops.watches b.memory (happens b event).board.memory → ⊥) →
     (is_done (touches stops.reads stops.accesses b event) (happens b event).report ≡ true → ⊥) → StopsAt stops b event → ⊥
 stops-by stops b event first second third (concerned, inl is) = first is
@@ -149,6 +152,7 @@ stops-by stops b event first second third (concerned, inr (inr is)) = third is
 pub stops-none : (stops : Stops) (b : BoardState) (event : Event) → does_no_more event (happens b event).report ≡ true →
     StopsAt stops (happens b event).board event → ⊥
 stops-none stops b event none =
-    stops-by stops (happens b event).board event (told-none stops b (happens (happens b event).board event).board event none)
+    stops-by stops (happens b event).board event (told-none stops b (happens (happens b event).board event).board event
+    (is_by stops.stepper (happens b event).board event) none)
     (differs-none stops.watches (happens b event).board event (rests b event none))
     (done-none stops.reads stops.accesses b event none)

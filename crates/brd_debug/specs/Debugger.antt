@@ -7,7 +7,7 @@ use Rattle.brd_board.specs.Board.{BoardState, happens}
 use Rattle.brd_journal.specs.Playing.{board_at}
 use Rattle.brd_debug.specs.declared.fault.DebugFault.{DebugFault}
 use Rattle.brd_debug.specs.declared.fault.DebugFault.TheVariants.{NoMemory, Past}
-use Rattle.brd_debug.specs.Stops.{IsBreak, is_stepped, is_fault, is_done, Differs}
+use Rattle.brd_debug.specs.Stops.{IsBreak, is_by, is_stepped, is_fault, is_done, Differs}
 use Rattle.brd_debug.specs.Touching.{touches}
 use Rattle.brd_debug.specs.declared.look.Look.{Look}
 use Rattle.brd_debug.specs.declared.stops.Stops.{Stops}
@@ -38,7 +38,8 @@ SeesAhead d None = slice_get d.events d.position ≡ None
 SeesAhead d (Some look) =
     (slice_get d.events d.position ≡ Some look.event)
     × (record { board = look.board; report = look.report } ≡ happens (shown d) look.event)
-    × (look.stepped ≡ is_stepped d.stops.stepper look.event look.report look.board)
+    × (look.stepped
+    ≡ is_stepped d.stops.stepper look.event look.report (is_by d.stops.stepper (shown d) look.event) look.board)
     × Decides look.breaks (IsBreak d.stops.breaks look.report)
     × (look.faults ≡ is_fault d.stops.faults look.report)
     × Decides look.touches (Differs d.stops.watches (shown d).memory look.board.memory

@@ -71,18 +71,34 @@ has_come_out cpu who start end after = goes_on_outside (processor_of cpu who aft
 abbrev pub moves_on : Event → Report → Bool
 moves_on event told = not (does_no_more event told)
 
--- An event is a stop of the processor that is stepped: it executes an instruction there; or it leads whom the processor
--- executes out of the range, others who are executed in the meantime apart, and on whichever processor he goes on.
-abbrev pub is_stepped : Option Stepper → Event → Report → BoardState → Bool
-is_stepped None event told after = false
-is_stepped (Some (Stepper.Each cpu)) event told after = is_step_of cpu event && executes told
-is_stepped (Some (Stepper.Until cpu who start end)) event told after =
+-- an event is a step of a processor that executes just this task, or this handler
+abbrev pub is_step_by : Standing → BoardState → Event → Bool
+is_step_by who b (Step cpu) = is_who who (standing_of b cpu)
+is_step_by who b Tick = false
+is_step_by who b (Raise line) = false
+
+-- An event, as it comes to a board, is a step of whom a stepper names, wherever he is executed.
+abbrev pub is_by : Option Stepper → BoardState → Event → Bool
+is_by None b event = false
+is_by (Some (Stepper.Each cpu)) b event = false
+is_by (Some (Stepper.Of who)) b event = is_step_by who b event
+is_by (Some (Stepper.Until cpu who start end)) b event = false
+
+-- An event is a stop of who is stepped: it executes an instruction on a processor, or an instruction of a task or
+-- handler; or it leads whom a processor executes out of a range, others who are executed in the meantime apart, and on
+-- whichever processor he goes on.
+abbrev pub is_stepped : Option Stepper → Event → Report → Bool → BoardState → Bool
+is_stepped None event told by after = false
+is_stepped (Some (Stepper.Each cpu)) event told by after = is_step_of cpu event && executes told
+is_stepped (Some (Stepper.Of who)) event told by after = by && executes told
+is_stepped (Some (Stepper.Until cpu who start end)) event told by after =
     moves_on event told && has_come_out cpu who start end after
 
 -- the processor of who is stepped, on a board; of nobody another one
 abbrev pub stepped_on : Option Stepper → BoardState → ℕ → ℕ
 stepped_on None b other = other
 stepped_on (Some (Stepper.Each cpu)) b other = cpu
+stepped_on (Some (Stepper.Of who)) b other = processor_of other who b
 stepped_on (Some (Stepper.Until cpu who start end)) b other = processor_of cpu who b
 
 -- an event raises an exception, where a debugger stops at these
@@ -90,11 +106,12 @@ abbrev pub is_fault : Bool → Report → Bool
 is_fault faults (report.Faulted address) = faults
 is_fault faults _ = false
 
--- an event with this report, which has left this board, is one at which a debugger stops, whatever memory it changed
-abbrev pub IsTold : Stops → Event → Report → BoardState → Type 0
-IsTold stops event told after =
+-- an event with this report, which was a step of whom the stepper names or not, and has left this board, is one at
+-- which a debugger stops, whatever memory it changed
+abbrev pub IsTold : Stops → Event → Report → Bool → BoardState → Type 0
+IsTold stops event told by after =
     IsBreak stops.breaks told
-    ⊎ ((is_stepped stops.stepper event told after ≡ true) ⊎ (is_fault stops.faults told ≡ true))
+    ⊎ ((is_stepped stops.stepper event told by after ≡ true) ⊎ (is_fault stops.faults told ≡ true))
 
 -- A watched byte differs between two memories.
 abbrev pub Differs : List ℕ → Memory → Memory → Type 0
@@ -110,19 +127,19 @@ abbrev pub concerns : Option ℕ → Event → Bool
 concerns None event = true
 concerns (Some cpu) event = is_step_of cpu event
 
--- an event with this report, which found this memory, touches bytes by its instruction or not, and has left this board,
--- is one at which a debugger stops
-abbrev pub Meets : Stops → Event → Report → Memory → Bool → BoardState → Type 0
-Meets stops event told memory touched after =
+-- an event with this report, which found this memory, touches bytes by its instruction or not, is a step of whom the
+-- stepper names or not, and has left this board, is one at which a debugger stops
+abbrev pub Meets : Stops → Event → Report → Memory → Bool → Bool → BoardState → Type 0
+Meets stops event told memory touched by after =
     (concerns stops.only event ≡ true)
-    × (IsTold stops event told after
+    × (IsTold stops event told by after
     ⊎ (Differs stops.watches memory after.memory ⊎ (is_done touched told ≡ true)))
 
 -- an event, as it happens to a board, is one at which a debugger stops
 abbrev pub StopsAt : Stops → BoardState → Event → Type 0
 StopsAt stops board event =
     Meets stops event (happens board event).report board.memory (touches stops.reads stops.accesses board event)
-    (happens board event).board
+    (is_by stops.stepper board event) (happens board event).board
 
 -- no breaks, no watches, no processor that is stepped, on at exceptions, and of every processor
 abbrev pub no_stops : Stops

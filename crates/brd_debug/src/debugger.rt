@@ -180,14 +180,14 @@ impl Debugger {
         self.stops.only = only;
     }
 
-    /// Stops from now on where a processor is stepped, or at no such place.
+    /// Stops from now on where somebody is stepped, or at no such place.
     pub fn set_stepper(&mut self, stepper: Option<Stepper>)
         ensures { self.new ≡ record self.old { stops = record self.old.stops { stepper = stepper } } }
     {
         self.stops.stepper = stepper;
     }
 
-    /// The processor that is stepped, if one is.
+    /// Who is stepped, if somebody is.
     pub fn stepper(&self) -> Option<Stepper>
         ensures { result ≡ self.now.stops.stepper }
     {
@@ -228,7 +228,9 @@ impl Debugger {
         Ok(Some(Look {
             event,
             report,
-            stepped: self.stops.is_stepped(event, report, &board),
+            stepped: self
+                .stops
+                .is_stepped(&self.shown.board, event, report, &board),
             breaks: self.stops.is_break(report),
             faults: self.stops.is_fault(report),
             touches: self

@@ -8,7 +8,7 @@ pub struct Look {
     pub event: Event,
     /// What it reports.
     pub report: Report,
-    /// Whether it is a stop of the processor that is stepped.
+    /// Whether it is a stop of who is stepped.
     pub stepped: bool,
     /// Whether it executes an instruction at a break.
     pub breaks: bool,

@@ -139,7 +139,7 @@ fn is_stop(
         return false;
     };
     let may_change = stops.may_change(&playback.board, rest.event);
-    let touches = stops.touches(&playback.board, rest.event);
+    let ahead = stops.ahead(&playback.board, rest.event);
     let moved = playback.advance(rest, playback.at + 1, to);
     stops.are_met(
         rest.event,
@@ -147,6 +147,6 @@ fn is_stop(
         &playback.board,
         bytes,
         may_change,
-        touches,
+        ahead,
     )
 }

@@ -10,6 +10,8 @@ ghost use Rattle.brd_debug.specs.Stops.{
   IsBreak,
   is_step_of,
   is_outside,
+  is_step_by,
+  is_by,
   is_stepped,
   executes,
   is_fault,
@@ -33,11 +35,13 @@ use crate::marks::{MOST_ADDRESSES, Marks};
 use crate::touching::touches;
 use brd_board::{Board, Event, Report, Standing};
 
-/// A processor that is stepped.
+/// Who is stepped.
 #[derive(Clone, Copy, PartialEq, Eq)]
 pub enum Stepper {
     /// Each instruction of this processor is a stop.
     Each(u8),
+    /// Each instruction of this task or handler is a stop, on whichever processor.
+    Of(Standing),
     /// A stop is where whom the processor executes is to go on outside a range, on whichever processor.
     Until {
         /// The processor on which he is executed at first.
@@ -62,7 +66,7 @@ pub struct Stops {
     pub reads: Marks,
     /// Where an instruction that reads or writes a byte is a stop.
     pub accesses: Marks,
-    /// The processor that is stepped.
+    /// Who is stepped, if somebody is.
     pub stepper: Option<Stepper>,
     /// Whether each exception is a stop.
     pub faults: bool,
@@ -75,6 +79,15 @@ pub struct Stops {
 pub struct WatchedBytes {
     /// The bytes.
     pub bytes: [Option<u8>; MOST_ADDRESSES],
+}
+
+/// What is seen of an event from the board before it.
+#[derive(Clone, Copy)]
+pub struct Ahead {
+    /// Whether it is a step whose instruction reads or writes a byte where that is a stop.
+    pub touches: bool,
+    /// Whether it is a step of whom the stepper names.
+    pub by: bool,
 }
 
 impl Stops {
@@ -101,7 +114,7 @@ impl Stops {
     }
 
     /// Whether an event that left a board, with this report, is a stop. It may have changed watched bytes, or not; they
-    /// are brought up to date. Whether its instruction touches bytes was seen before it.
+    /// are brought up to date. Whose step it is, and whether its instruction touches bytes, was seen before it.
     #[inline(always)]
     pub fn are_met(
         &self,
@@ -110,17 +123,17 @@ impl Stops {
         board: &Board,
         bytes: &mut WatchedBytes,
         may_change: bool,
-        touches: bool,
+        ahead: Ahead,
     ) -> bool
         ensures stops { (memory : MemoryOf) → AreBytesAt self.now.watches memory bytes.old.bytes
             → IsSameUnless may_change self.now.watches memory board.now.memory
-            → Decides result (Meets self.now event report memory touches board.now) }
+            → Decides result (Meets self.now event report memory ahead.touches ahead.by board.now) }
         ensures bytes { (memory : MemoryOf) → AreBytesAt self.now.watches memory bytes.old.bytes
             → IsSameUnless may_change self.now.watches memory board.now.memory
             → AreBytesAt self.now.watches board.now.memory bytes.new.bytes }
     {
         let changed = renewed(self.watches.as_slice(), bytes, board, may_change);
-        self.are_met_or(event, report, board, changed, touches)
+        self.are_met_or(event, report, board, changed, ahead)
     }
 
     /// Whether an event that left a board, with this report, is a stop: by what it is, or since it has changed or
@@ -132,14 +145,14 @@ impl Stops {
         report: Report,
         board: &Board,
         changed: bool,
-        touches: bool,
+        ahead: Ahead,
     ) -> bool
         ensures { Decides result ((concerns self.now.only event ≡ true)
-            × (IsTold self.now event report board.now
-            ⊎ ((changed ≡ true) ⊎ (is_done touches report ≡ true)))) }
+            × (IsTold self.now event report ahead.by board.now
+            ⊎ ((changed ≡ true) ⊎ (is_done ahead.touches report ≡ true)))) }
     {
         if concerns(self.only, event) {
-            return self.are_seen(event, report, board, changed, touches);
+            return self.are_seen(event, report, board, changed, ahead);
         }
         false
     }
@@ -152,18 +165,30 @@ impl Stops {
         report: Report,
         board: &Board,
         changed: bool,
-        touches: bool,
+        ahead: Ahead,
     ) -> bool
-        ensures { Decides result (IsTold self.now event report board.now
-            ⊎ ((changed ≡ true) ⊎ (is_done touches report ≡ true))) }
+        ensures { Decides result (IsTold self.now event report ahead.by board.now
+            ⊎ ((changed ≡ true) ⊎ (is_done ahead.touches report ≡ true))) }
     {
-        if self.is_told(event, report, board) {
+        if self.is_told(event, report, ahead.by, board) {
             return true;
         }
         if changed {
             return true;
         }
-        is_done(touches, report)
+        is_done(ahead.touches, report)
+    }
+
+    /// What is seen of an event from the board before it.
+    #[inline(always)]
+    pub fn ahead(&self, board: &Board, event: Event) -> Ahead
+        ensures touches { result.touches ≡ touches self.now.reads self.now.accesses board.now event }
+        ensures by { result.by ≡ is_by self.now.stepper board.now event }
+    {
+        Ahead {
+            touches: self.touches(board, event),
+            by: is_by(self.stepper, board, event),
+        }
     }
 
     /// Whether an event, seen from the board before it, is a step whose instruction reads or writes a byte where that
@@ -178,20 +203,23 @@ impl Stops {
         touches(&self.reads, &self.accesses, board, event)
     }
 
-    /// Whether an event with this report, which left a board, is a stop of the processor that is stepped.
-    pub fn is_stepped(&self, event: Event, report: Report, board: &Board) -> bool
-        ensures { result ≡ is_stepped self.now.stepper event report board.now }
+    /// Whether an event with this report, between two boards, is a stop of who is stepped.
+    pub fn is_stepped(&self, before: &Board, event: Event, report: Report, after: &Board) -> bool
+        ensures { result
+            ≡ is_stepped self.now.stepper event report (is_by self.now.stepper before.now event) after.now }
     {
-        is_stepped(self.stepper, event, report, board)
+        let by = is_by(self.stepper, before, event);
+        is_stepped(self.stepper, event, report, by, after)
     }
 
     /// Whether an event is a stop that is seen from the board before it.
     pub fn meet(&self, before: &Board, look: &Look) -> bool
         ensures { Decides result
             (Meets self.now look.now.event look.now.report before.now.memory
-            (touches self.now.reads self.now.accesses before.now look.now.event) look.now.board) }
+            (touches self.now.reads self.now.accesses before.now look.now.event)
+            (is_by self.now.stepper before.now look.now.event) look.now.board) }
     {
-        let touches = self.touches(before, look.event);
+        let ahead = self.ahead(before, look.event);
         let mut bytes = self.watched(before);
         self.are_met(
             look.event,
@@ -199,7 +227,7 @@ impl Stops {
             &look.board,
             &mut bytes,
             true,
-            touches,
+            ahead,
         )
     }
 
@@ -216,13 +244,13 @@ impl Stops {
 
     /// Whether an event with this report is a stop, whatever it has changed.
     #[inline(always)]
-    fn is_told(&self, event: Event, report: Report, board: &Board) -> bool
-        ensures { Decides result (IsTold self.now event report board.now) }
+    fn is_told(&self, event: Event, report: Report, by: bool, board: &Board) -> bool
+        ensures { Decides result (IsTold self.now event report by board.now) }
     {
         if self.is_break(report) {
             return true;
         }
-        if is_stepped(self.stepper, event, report, board) {
+        if is_stepped(self.stepper, event, report, by, board) {
             return true;
         }
         is_fault(self.faults, report)
@@ -262,14 +290,43 @@ impl Stops {
     }
 }
 
-/// Whether an event with this report, which left a board, is a stop of the processor that is stepped.
+/// Whether an event, seen from the board before it, is a step of whom a stepper names.
 #[inline(always)]
-fn is_stepped(stepper: Option<Stepper>, event: Event, report: Report, board: &Board) -> bool
-    ensures { result ≡ is_stepped stepper event report board.now }
+fn is_by(stepper: Option<Stepper>, board: &Board, event: Event) -> bool
+    ensures { result ≡ is_by stepper board.now event }
+{
+    match stepper {
+        Some(Stepper::Of(who)) => is_step_by(who, board, event),
+        None | Some(Stepper::Each(_)) | Some(Stepper::Until { .. }) => false,
+    }
+}
+
+/// Whether an event, seen from the board before it, is a step of a processor that executes somebody.
+fn is_step_by(who: Standing, board: &Board, event: Event) -> bool
+    ensures { result ≡ is_step_by who board.now event }
+{
+    match event {
+        Event::Step(cpu) => is_who(who, board.standing(cpu)),
+        Event::Tick | Event::Raise(_) => false,
+    }
+}
+
+/// Whether an event with this report, which left a board, is a stop of who is stepped; whether it was a step of whom the
+/// stepper names was seen before it.
+#[inline(always)]
+fn is_stepped(
+    stepper: Option<Stepper>,
+    event: Event,
+    report: Report,
+    by: bool,
+    board: &Board,
+) -> bool
+    ensures { result ≡ is_stepped stepper event report by board.now }
 {
     match stepper {
         None => false,
         Some(Stepper::Each(cpu)) => is_step_of(cpu, event) && executes(report),
+        Some(Stepper::Of(_)) => by && executes(report),
         Some(
             Stepper::Until {
                 cpu,
@@ -323,6 +380,7 @@ pub fn stepped_on(stepper: Option<Stepper>, board: &Board, other: u8) -> u8
     match stepper {
         None => other,
         Some(Stepper::Each(cpu)) => cpu,
+        Some(Stepper::Of(who)) => processor_of(other, who, board),
         Some(Stepper::Until { cpu, who, .. }) => processor_of(cpu, who, board),
     }
 }

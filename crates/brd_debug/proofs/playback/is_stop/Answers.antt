@@ -6,6 +6,7 @@ use Rattle.brd_journal.proofs.RestLemmas.{rest_some}
 use Rattle.brd_journal.proofs.PlayingLemmas.{first-board}
 use Rattle.brd_debug.specs.Watching.{IsSameUnless}
 use Rattle.brd_debug.specs.Stops.{Meets}
+use Rattle.brd_debug.specs.Touching.{touches}
 use Rattle.brd_debug.proofs.PlayingLemmas.{decides-stop, none-after}
 use Rattle.brd_debug.proofs.playback.is_stop.Goals as goal
 use Rattle.brd_debug.proofs.playback.is_stop.Goals.{After-advance-moved}
@@ -41,9 +42,14 @@ returns-clause-stop c =
     λ boot is. decides-stop c.args.stops.now boot c.args.playback.now.board c.advance-moved.new.self.board c.args.journal.now.events c.args.playback.now.at
     c.in-Some.rest.event c.advance-moved.result.report c.are_met.result is.board
     (sym (rest_some c.args.journal.now.events c.args.playback.now.at c.in-Some.rest c.in-Some.ensures.comes)) c.advance-moved.ensures.report (left d)
+    (subst (λ by. Decides c.are_met.result
+    (Meets c.args.stops.now c.in-Some.rest.event c.advance-moved.result.report c.args.playback.now.board.memory
+    (touches c.args.stops.now.reads c.args.stops.now.accesses c.args.playback.now.board c.in-Some.rest.event) by c.advance-moved.new.self.board))
+    c.ahead-ahead.ensures.by
     (subst (λ touched. Decides c.are_met.result
-    (Meets c.args.stops.now c.in-Some.rest.event c.advance-moved.result.report c.args.playback.now.board.memory touched c.advance-moved.new.self.board))
-    c.touches-touches.ensures (c.are_met.ensures.stops c.args.playback.now.board.memory c.requires.bytes (same d)))
+    (Meets c.args.stops.now c.in-Some.rest.event c.advance-moved.result.report c.args.playback.now.board.memory touched c.ahead-ahead.result.by
+    c.advance-moved.new.self.board))
+    c.ahead-ahead.ensures.touches (c.are_met.ensures.stops c.args.playback.now.board.memory c.requires.bytes (same d))))
 
 pub returns-clause-none : goal.returns-clause-none
 returns-clause-none c =
