@@ -45,7 +45,7 @@ edited() {
 }
 
 use="[--seed N] [--seconds N] [--points FILE] FOLDER, where your lab.s of lab"
-for lab in 1 2 3 4; do
+for lab in 1 2 3 4 5; do
     solved $lab
     looked "the solution" $lab 0 <<< "lab $lab: nothing is missing"
     for seed in 0 999999999; do
@@ -92,7 +92,7 @@ verdict "points: a beginning" "$(grep -qx 'lab 3: 2 of 15 points' "$work/out" ||
 rm "$work/mine/lab.s"
 examples/labs/3/check --points "$work/points" "$work/mine" > "$work/out" 2> "$work/err"
 verdict "points: no source" "$(grep -qx 'lab 3: 0 of 15 points' "$work/out" || tail -n 2 "$work/out")"
-for lab in 1 2 3 4; do
+for lab in 1 2 3 4 5; do
     sed -nE '/^#/d; s/^.*(missing|none_fails) "?([a-z_]+)[". ].*/\2/p' examples/labs/$lab/check | grep -vxE 'all|end|data' | sort -u > "$work/parts"
     sed -nE "s/^$lab ([a-z_]+).*/\1/p" examples/labs/teachers/points | sort -u > "$work/worth"
     verdict "points: the parts of lab $lab" "$(diff "$work/parts" "$work/worth")"
@@ -340,6 +340,72 @@ solved 4
 edited 's/snd_dtq, 33/snd_dtq, 34/; s/rcv_dtq, 37/rcv_dtq, 38/; s/^( *)bnez    \$a1, send/        bnez    $v0, again\n        nop\n&/'
 edited 's/^( *)addiu   \$v0, \$0, snd_dtq/again:  addiu   $v0, $0, snd_dtq/; s/^( *)beqz    \$v1, end/        bnez    $v0, consumer\n        nop\n&/'
 looked "calls that are asked for again" 4 0 <<< "lab 4: nothing is missing"
+
+# Lab 5.
+begun 5
+looked "the beginning" 5 1 << 'END'
+with ticks at events 29 and 36 it should write Zc, and writes 'cZ'
+with ticks at events 30 and 42 it should write Zc, and writes 'cZ'
+with ticks at events 36 and 40 it should write Zc, and writes 'cZ'
+a schedule of lab.s fails: fails after 109 events: the console is "c", not "Zc"
+    event 0  processor 1 goes on at high
+    event 9  a tick
+    event 58  a tick
+END
+begun 5
+edited 's/^low: (.*)/low:    addiu   $a0, $0, bus\n        addiu   $v0, $0, wai_sem\n        syscall\n        addiu   $a0, $0, 0\n        addiu   $a1, $0, 1\n        addiu   $v0, $0, chg_pri\n        syscall\n        b       had\n        nop\n        \1/'
+edited '/^had:/!{/^low:/,/^use:/s/^        lui     \$s0, %hi\(given\)/had:&/; s/^had:        /had:    /}'
+looked "as urgent as high, but only once it has the bus" 5 1 << 'END'
+a schedule of lab.s fails: fails after 67 events: the console is "c", not "Zc"
+    event 0  processor 1 goes on at high
+    event 9  a tick
+    event 16  a tick
+END
+solved 5
+edited '/^high:/,/^middle:/{/addiu   \$a0, \$0, bus/,/syscall/d}'
+looked "high doesn't take the bus" 5 1 \
+    <<< "who hasn't got the bus should neither store to device nor write high's letter"
+solved 5
+edited '/^low:/,/^use:/{/addiu   \$a0, \$0, bus/,/syscall/d}'
+looked "low doesn't take the bus" 5 1 << 'END'
+who hasn't got the bus should neither store to device nor write high's letter
+with a tick at event 29 low should have the bus then: nobody else has wanted it
+with a tick at event 30 low should have the bus then: nobody else has wanted it
+with a tick at event 36 low should have the bus then: nobody else has wanted it
+END
+begun 5
+edited 's/^low: (.*)/low:    addiu   $a0, $0, 5\n        addiu   $v0, $0, dly_tsk\n        syscall\n        \1/'
+looked "low waits until the others are done" 5 1 << 'END'
+task 3 should store 10 times to device, as at the beginning
+with a tick at event 29 low should have the bus then: nobody else has wanted it
+with a tick at event 30 low should have the bus then: nobody else has wanted it
+with a tick at event 36 low should have the bus then: nobody else has wanted it
+END
+begun 5
+edited 's/^work: .*/work:   addiu   $t0, $t0, -2/'
+looked "another middle" 5 1 <<< "the lines of middle should be left as they are"
+begun 5
+edited '/^high:/,/^middle:/{/addiu   \$v0, \$0, put_chr/,/syscall/d}'
+edited '/^high:/,/^middle:/{0,/syscall/s/^( *)syscall .*/&\n        lui     $s0, %hi(given)\n        lw      $a0, %lo(given+8)($s0)\n        addiu   $v0, $0, put_chr\n        syscall/}'
+looked "a letter before high has the bus" 5 1 \
+    <<< "who hasn't got the bus should neither store to device nor write high's letter"
+solved 5
+edited 's/^use: .*/        sw      $t0, %lo(device)($s1)\nuse:    addiu   $t1, $0, 0/'
+refused "low stores once" 5 "task 3 should store "
+solved 5
+edited 's/^( *)lw      \$a0, %lo\(given\+8\).*/\1addiu   $a0, $0, 72/'
+refused "a letter that isn't loaded" 5 "with ticks at events "
+solved 5
+edited 's/^given:/data: given:/'
+looked "another name of the data" 5 1 <<< "the line that begins with 'given:' should be left as it is"
+# High may do it for low, before it asks for the bus itself; and so may low without dispatching.
+begun 5
+edited '/^high:/,/^middle:/s/^( *)addiu   \$v0, \$0, wai_sem/        addiu   $a0, $0, 3\n        addiu   $a1, $0, 1\n        addiu   $v0, $0, chg_pri\n        syscall\n        addiu   $a0, $0, bus\n&/'
+looked "high makes low as urgent as itself" 5 0 <<< "lab 5: nothing is missing"
+begun 5
+edited 's/^( *)\.equ( *)put_chr, 40/&\n        .equ    dis_dsp, 12\n        .equ    ena_dsp, 13\n        .equ    pol_sem, 26/'
+edited '/^low:/,/given:/{s/^low: (.*)/low:    addiu   $v0, $0, dis_dsp\n        syscall\n        \1/; s/wai_sem/pol_sem/; s/^( *)addiu   \$v0, \$0, ext_tsk/\1addiu   $v0, $0, ena_dsp\n        syscall\n&/}'
+looked "no dispatching while low has the bus" 5 0 <<< "lab 5: nothing is missing"
 
 # The table of COURSE.md, "What to write instead": each right column is assembled, and does what the left one says.
 # instead LEFT: the lines of the right column of the row that begins so.
