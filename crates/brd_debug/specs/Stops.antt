@@ -14,6 +14,8 @@ use Rattle.brd_board.specs.Board.{BoardState, happens, registers_of, standing_of
 use Rattle.brd_journal.specs.Still.{does_no_more}
 use Rattle.brd_journal.specs.Playing.{board_at}
 use Rattle.brd_debug.specs.declared.stops.Stepper.{Stepper}
+use Rattle.brd_debug.specs.declared.stops.Only.{Only}
+use Rattle.brd_debug.specs.declared.stops.Only.TheVariants as only
 use Rattle.brd_debug.specs.declared.stops.Stops.{Stops}
 use Rattle.brd_debug.specs.Touching.{touches}
 
@@ -122,16 +124,17 @@ abbrev pub is_done : Bool → Report → Bool
 is_done touched (report.Ran address) = touched
 is_done touched _ = false
 
--- the events that are stops are those of every processor, or an event is a step of the only one
-abbrev pub concerns : Option ℕ → Event → Bool
-concerns None event = true
-concerns (Some cpu) event = is_step_of cpu event
+-- the events that are stops are all, or the steps of one processor, or those of whom the stepper names
+abbrev pub concerns : Only → Event → Bool → Bool
+concerns only.All event by = true
+concerns (only.Processor cpu) event by = is_step_of cpu event
+concerns only.Stepped event by = by
 
 -- an event with this report, which found this memory, touches bytes by its instruction or not, is a step of whom the
 -- stepper names or not, and has left this board, is one at which a debugger stops
 abbrev pub Meets : Stops → Event → Report → Memory → Bool → Bool → BoardState → Type 0
 Meets stops event told memory touched by after =
-    (concerns stops.only event ≡ true)
+    (concerns stops.only event by ≡ true)
     × (IsTold stops event told by after
     ⊎ (Differs stops.watches memory after.memory ⊎ (is_done touched told ≡ true)))
 
@@ -141,7 +144,7 @@ StopsAt stops board event =
     Meets stops event (happens board event).report board.memory (touches stops.reads stops.accesses board event)
     (is_by stops.stepper board event) (happens board event).board
 
--- no breaks, no watches, no processor that is stepped, on at exceptions, and of every processor
+-- no breaks, no watches, nobody who is stepped, on at exceptions, and of all
 abbrev pub no_stops : Stops
 no_stops = record {
   breaks = [];
@@ -150,7 +153,7 @@ no_stops = record {
   accesses = [];
   stepper = None;
   faults = false;
-  only = None;
+  only = only.All;
 }
 
 -- A position is a stop where the event after it is one.

@@ -14,7 +14,7 @@ use crate::look::Look;
 use crate::marks::{MOST_ADDRESSES, MOST_MARKS};
 use crate::search::{go_back, next_stop, play_near, played_to, stop_before};
 use crate::snapshots::Snapshots;
-use crate::stops::{Stepper, Stops};
+use crate::stops::{Only, Stepper, Stops};
 use brd_base::NoMemory;
 use brd_board::{Board, Event};
 use brd_journal::{Journal, Playback};
@@ -173,8 +173,8 @@ impl Debugger {
         self.stops.breaks.has(address)
     }
 
-    /// Stops from now on at the steps of this processor alone, or of every processor.
-    pub fn set_only(&mut self, only: Option<u8>)
+    /// Stops from now on at these events alone.
+    pub fn set_only(&mut self, only: Only)
         ensures { self.new ≡ record self.old { stops = record self.old.stops { only = only } } }
     {
         self.stops.only = only;

@@ -17,5 +17,5 @@ mod touching;
 pub use debugger::Debugger;
 pub use fault::DebugFault;
 pub use look::Look;
-pub use stops::{Stepper, stepped_on};
+pub use stops::{Only, Stepper, stepped_on};
 pub use touching::{read_on, written_on};

@@ -55,6 +55,17 @@ pub enum Stepper {
     },
 }
 
+/// Whose events alone are stops.
+#[derive(Clone, Copy, PartialEq, Eq)]
+pub enum Only {
+    /// All are.
+    All,
+    /// The steps of this processor.
+    Processor(u8),
+    /// The steps of whom the stepper names.
+    Stepped,
+}
+
 /// Addresses of instructions, addresses of bytes, and what else is a stop.
 #[derive(Drop)]
 pub struct Stops {
@@ -70,8 +81,8 @@ pub struct Stops {
     pub stepper: Option<Stepper>,
     /// Whether each exception is a stop.
     pub faults: bool,
-    /// The processor whose steps alone are stops.
-    pub only: Option<u8>,
+    /// Whose events alone are stops.
+    pub only: Only,
 }
 
 /// The bytes at watched addresses, in the order of these; None where RAM has none.
@@ -102,7 +113,7 @@ impl Stops {
             accesses: Marks::new(),
             stepper: None,
             faults: false,
-            only: None,
+            only: Only::All,
         }
     }
 
@@ -147,17 +158,17 @@ impl Stops {
         changed: bool,
         ahead: Ahead,
     ) -> bool
-        ensures { Decides result ((concerns self.now.only event ≡ true)
+        ensures { Decides result ((concerns self.now.only event ahead.by ≡ true)
             × (IsTold self.now event report ahead.by board.now
             ⊎ ((changed ≡ true) ⊎ (is_done ahead.touches report ≡ true)))) }
     {
-        if concerns(self.only, event) {
+        if concerns(self.only, event, ahead.by) {
             return self.are_seen(event, report, board, changed, ahead);
         }
         false
     }
 
-    /// The same of an event of a processor that is looked at.
+    /// The same of an event that may be one.
     #[inline(always)]
     fn are_seen(
         &self,
@@ -338,14 +349,15 @@ fn is_stepped(
     }
 }
 
-/// Whether the events that are stops are those of every processor, or an event is a step of the only one.
+/// Whether an event, which is a step of whom the stepper names or not, is one of those that may be stops.
 #[inline(always)]
-fn concerns(only: Option<u8>, event: Event) -> bool
-    ensures { result ≡ concerns only event }
+fn concerns(only: Only, event: Event, by: bool) -> bool
+    ensures { result ≡ concerns only event by }
 {
     match only {
-        None => true,
-        Some(cpu) => is_step_of(cpu, event),
+        Only::All => true,
+        Only::Processor(cpu) => is_step_of(cpu, event),
+        Only::Stepped => by,
     }
 }
 

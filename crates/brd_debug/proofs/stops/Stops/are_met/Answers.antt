@@ -26,7 +26,7 @@ bytes c memory are same =
 
 pub returns-clause-stops : goal.returns-clause-stops
 returns-clause-stops c = λ memory are same.
-    decides-met (concerns c.args.self.now.only c.args.event) c.renewed-changed.result (is_done c.args.ahead.touches c.args.report) c.are_met_or.result
+    decides-met (concerns c.args.self.now.only c.args.event c.args.ahead.by) c.renewed-changed.result (is_done c.args.ahead.touches c.args.report) c.are_met_or.result
     (differ (goal.at.returns-clause-stops c).After-renewed-changed memory are same) c.are_met_or.ensures
 
 pub returns-clause-bytes : goal.returns-clause-bytes
