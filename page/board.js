@@ -2,6 +2,7 @@
 //
 // The data (element "data", JSON) have the state at the first position and what each event changed:
 //   from, cpus, tasks, tick, off, console    the first position, and how the board stands there
+//   asked     the position from which on events were asked for: those before the first one here were left out
 //   events    objects; of an event
 //     c  its processor      a  the address of its instruction    t  what is said of it     q  nothing happens
 //     r  registers of its processor that it writes, as number, word, number, word ..; 32 is HI, 33 LO, 34 the slot
@@ -9,7 +10,8 @@
 //     m  a word of memory, what was there, and of a store what is there then
 //     d  processors on which somebody else executes              s  tasks that differ
 //     o  what it writes to the console      k  the tick          x  it turns the board off
-//   listing   address, name, instruction, and the line of source where there is one
+//   listing   address, name, instruction, the file and the line of the source ("main.c:31") where they are known, and
+//             the text of that line where sdk/sourced has put it there
 //   words     address and name of each word that is loaded or stored
 // A processor is its number, "task", "handler", "idle" or "stopped", the number of the task or of the line, the address
 // of the next instruction, and the registers that aren't 0. A task is its number, state, priority, processor, what it
@@ -42,6 +44,8 @@ const signed = (word) => String(word | 0);
 const plain = (text) => text.replace(/[^ -~]/g, (c) => "\\x" + c.charCodeAt(0).toString(16).padStart(2, "0"));
 // The same, but newlines as they are.
 const lines = (text) => text.split("\n").map(plain).join("\n");
+// A number as it is read.
+const grouped = (number) => String(number).replace(/\B(?=(\d{3})+$)/g, ",");
 // A label without the distance to it.
 const labelOf = (name) => name.replace(/\+0x[0-9a-f]+$/, "");
 
@@ -108,6 +112,10 @@ function characters(word) {
 const withNames = (text) => /^[bj]/.test(text)
   ? text.replace(/0x[0-9a-f]{8}$/, (target) => (rowAt.has(Number(target)) ? run.listing[rowAt.get(Number(target))][1]
     : target)) : text;
+
+// Of addresses whose line of source is known, the file and the line; and of those whose text is known, the text.
+const lineOf = new Map(run.listing.filter((row) => row.length > 3).map((row) => [row[0], plain(row[3])]));
+const sourceOf = new Map(run.listing.filter((row) => row.length > 4).map((row) => [row[0], row[4]]));
 
 // The instruction of an event, as the listing has it; nothing where it isn't known.
 function instructionOf(i) {
@@ -374,6 +382,12 @@ function notKept(i) {
     + names.join(", ") + ": a function leaves these as they were.";
 }
 
+// The line of source that an event is of, where its text is known.
+function sourceLine(i) {
+  const { a } = events[i];
+  return lineOf.has(a) && sourceOf.has(a) ? lineOf.get(a) + ": " + plain(sourceOf.get(a)) : "";
+}
+
 const shown = (i) => plain(withNames(instructionOf(i)));
 const isBranch = (i) => events[i].t === undefined && /^[bj]/.test(instructionOf(i));
 const isConditional = (text) => text[0] === "b" && !/^(beql?|bgezall?) \$zero, (\$zero,|0x)/.test(text);
@@ -404,7 +418,9 @@ function ways(i) {
 function wordsOf(i) {
   const event = events[i];
   const said = [];
-  if (event.a !== undefined) said.push("at " + placeOf(event.a));
+  if (event.a !== undefined) {
+    said.push("at " + placeOf(event.a) + (lineOf.has(event.a) ? " (" + lineOf.get(event.a) + ")" : ""));
+  }
   if (event.i !== undefined || (event.t === undefined && rowAt.has(event.a))) said.push(shown(i));
   if (event.t !== undefined) said.push(plain(event.t));
   if (event.t === undefined) {
@@ -505,14 +521,15 @@ function circle(state) {
     + held.get(object).map((unit) => unit.who + " took at " + after(unit.i)).join(" and "));
 }
 
-// Whether an idle processor may be about to accept an interrupt: one is raised since its last step, and pending.
+// Whether an idle processor may be about to accept an interrupt: one is raised since its last step, and pending. (Before
+// the first position some may have been raised.)
 function isRaised(state) {
   const raised = new Map();
   for (const { i, found } of textsOf(/^(the|accepts the) interrupt of line (\d+)/)) {
     if (found[1] === "the") raised.set(found[2], i);
     else raised.delete(found[2]);
   }
-  const last = Math.max(-1, ...raised.values());
+  const last = Math.max(from === 0 ? -1 : 0, ...raised.values());
   return state.cpus.some((cpu) => cpu.who === "idle"
     && events.findLastIndex((event) => event.c === cpu.number) < last);
 }
@@ -572,7 +589,7 @@ function endOf() {
     if (rows.length > 0) heads.push(rows.length === 1 ? name[0] : rows.length + " " + name[1]);
     found.push(...rows);
   };
-  if (from === 0 && isDeadlock(state)) {
+  if (isDeadlock(state)) {
     add(["deadlock"], [{ text: "deadlock: no task is ready, and no tick and no pending interrupt releases one that "
       + "waits" }]);
   }
@@ -839,8 +856,6 @@ function rowText(row) {
 
 // ---- the text of the source, if the reader gives it
 
-// The line of source of an address.
-const sourceOf = new Map(run.listing.filter((row) => row.length > 3).map((row) => [row[0], row[3]]));
 const placeNamed = new Map([...run.listing, ...run.words].map(([address, name]) => [name, address]));
 // The instructions that shorthands stand for, and directives behind which the next thing stands where they do.
 const SHORT = { nop: "sll", move: "addu", b: "beq", beqz: "beq", bnez: "bne", bal: "bgezal" };
@@ -873,22 +888,51 @@ function assembled(lines) {
   return found;
 }
 
-// Puts the lines of a file beside the words that they have made.
-function giveSource(name, text) {
-  const found = assembled(text.split(/\r?\n/));
-  if (typeof found === "number") {
-    return say(name + " isn't the source of this run: line " + found + " has another instruction than the listing.");
+// The lines of another source by address: those of a file of this name.
+function compiled(name, lines) {
+  const found = new Map();
+  for (const [address, place] of lineOf) {
+    const [, file, line] = /^(.*):(\d+)$/.exec(place);
+    if (file !== name) continue;
+    if (line > lines.length) return Number(line);
+    found.set(address, lines[line - 1].trim().replace(/\s+/g, " "));
   }
+  return found;
+}
+
+// Puts the lines of a file beside the words that they have made, and answers what is to be said of it.
+function giveSource(name, text) {
+  const lines = text.split(/\r?\n/);
+  const found = lineOf.size > 0 ? compiled(name, lines) : assembled(lines);
+  if (typeof found === "number") {
+    return name + " isn't the source of this run: line " + found + (lineOf.size > 0 ? " isn't there."
+      : " has another instruction than the listing.");
+  }
+  if (found.size === 0) return name + " has no line of the listing.";
   for (const [address, line] of found) sourceOf.set(address, line);
-  firstRow = -1;
-  show();
-  say("The lines of " + name + " stand in the listing.");
+  return "The lines of " + name + " stand in the listing.";
 }
 
 byId("source").addEventListener("change", () => {
-  const [file] = byId("source").files;
-  if (file) file.text().then((text) => giveSource(file.name, text));
+  const files = [...byId("source").files];
+  Promise.all(files.map((file) => file.text())).then((texts) => {
+    const said = texts.map((text, i) => giveSource(files[i].name, text));
+    firstRow = -1;
+    show();
+    say(said.join("\n"));
+  });
 });
+
+// What the listing says of the source of a row: the line with its text, where that is known. Where the row before is of
+// the same line it isn't said again.
+function sourceText(i) {
+  const [address] = run.listing[i];
+  const line = lineOf.get(address), text = sourceOf.get(address);
+  if (line === undefined) return text || "";
+  const before = run.listing[i - 1];
+  if (before && before[0] + 4 === address && lineOf.get(before[0]) === line) return "";
+  return text === undefined ? line : line + "  " + text;
+}
 
 // ---- the listing
 
@@ -910,7 +954,8 @@ function showListing() {
     : Math.max(0, Math.min(run.listing.length - ROWS, centre - (centre % (ROWS / 4)) - ROWS / 2));
   if (start !== firstRow) {
     firstRow = start;
-    byId("views").classList.toggle("has-source", sourceOf.size > 0);
+    byId("views").classList.toggle("has-source", sourceOf.size + lineOf.size > 0);
+    byId("views").classList.toggle("has-lines", lineOf.size > 0);
     listBody.replaceChildren();
     for (let i = start; i < Math.min(start + ROWS, run.listing.length); i++) putRow(i);
   }
@@ -952,7 +997,7 @@ function putRow(i) {
   cell.append(line.isData ? hex(address) : lineButton(address));
   if (!line.isData && !executed.has(address)) line.classList.add("unused");
   line.append(make("td"), cell, make("td", plain(shortName(i))), make("td", rowText(run.listing[i])),
-    make("td", plain(sourceOf.get(address) || ""), "source"));
+    make("td", plain(sourceText(i)), "source"));
   listBody.append(line);
 }
 
@@ -1060,7 +1105,8 @@ function go(wanted, answer) {
   if (answer) said.push(answer);
   said.push("Position " + position + (position > from ? ", after event " + (position - 1) + ": "
     + wordsOf(position - from - 1) + "." : ", the first of this page."));
-  if (position > from) said.push(writtenOver(position - from - 1), notKept(position - from - 1));
+  const last = position - from - 1;
+  if (last >= 0) said.push(sourceLine(last), writtenOver(last), notKept(last));
   say(said.filter((text) => text !== "").join("\n"));
   clearTimeout(addressed);
   addressed = setTimeout(() => history.replaceState(null, "", "#at=" + position), 100);
@@ -1279,6 +1325,11 @@ for (const panel of panels) {
 if (wordRows.length > 0) wordRows[0].button.isFirst = true;
 byId("memory").querySelector("tbody").append(...wordRows.map((row) => row.line));
 byId("range").textContent = "of " + from + " to " + to;
+if (run.asked < from) {
+  byId("left-out").textContent = "The last " + grouped(events.length) + " of " + grouped(to - run.asked)
+    + " events: a page has no room for more. The others are shown by --from and --to.";
+  byId("left-out").hidden = false;
+}
 byId("slider").min = from;
 byId("slider").max = to;
 byId("order").hidden = isBig !== undefined;

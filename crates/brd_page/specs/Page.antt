@@ -1,5 +1,5 @@
 -- What a page is made of.
-use Rattle.std.specs.Prelude.{◌≡◌, ℕ, true, List, ◌++◌}
+use Rattle.std.specs.Prelude.{◌≡◌, ◌⊎◌, ℕ, ◌≤◌, ◌-◌, true, List, ◌++◌}
 use Rattle.std.specs.List.{list_all}
 use Rattle.brd_board.specs.declared.event.Event.{Event}
 use Rattle.brd_board.specs.Board.{BoardState}
@@ -34,3 +34,11 @@ pub record IsRunPage (boot : BoardState) (events : List Event) (from to : ℕ) (
   pub is_page : IsPage FRONT.now picture MIDDLE.now json REST.now page
   pub drawn : IsDrawn boot events from to picture
   pub told : IsData boot events from to json
+
+-- A page of the run from one position to another: of all its events, or of the last ones, and then of no fewer than are
+-- shown in any case.
+pub record IsLastPage (boot : BoardState) (events : List Event) (from to : ℕ) (page : List ℕ) : Type 0 where
+  pub first : ℕ
+  pub least : from ≤ first
+  pub enough : (first ≡ from) ⊎ (always_shown ≤ to - first)
+  pub is_page : IsRunPage boot events first to page

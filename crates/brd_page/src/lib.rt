@@ -14,12 +14,10 @@ mod picture;
 mod recorder;
 mod run_page;
 mod seen;
-mod source;
 mod template;
 mod told;
 mod words;
 
 pub use fault::PageFault;
 pub use picture::draw;
-pub use run_page::{MOST_BYTES, MOST_EVENTS, Part, page};
-pub use source::SourceLine;
+pub use run_page::{ALWAYS_SHOWN, MOST_BYTES, MOST_EVENTS, Part, page};

@@ -1,11 +1,11 @@
 //! The listing: the instructions that were executed, and those near them.
 
 use crate::data::Json;
-use crate::source::SourceLine;
 use brd_base::NoMemory;
 use brd_isa::decode;
 use brd_listing::{Places, write_instruction};
 use brd_mem::{Image, Segment};
+use brd_names::Names;
 use brd_text::hex_digits;
 use brd_word::word_of;
 use std::alloc::Global;
@@ -14,17 +14,15 @@ use std::alloc::Global;
 const AROUND: u32 = 4;
 
 /// Puts at the end a list of the instructions at some addresses, and of those near them, each with its address, the
-/// name of that, the instruction and its line of source where there is one. The addresses ascend, and so do the lines'.
+/// name of that, the instruction, and the file and the line of its source, where they are known. The addresses ascend.
 pub(crate) fn put_listing(
     json: &mut Json,
     alloc: Global,
     image: &Image,
-    symbols: &Places,
-    sources: &[SourceLine],
+    names: Names,
     places: &[u32],
 ) -> Result<(), NoMemory> {
     let mut next = 0;
-    let mut left = sources;
     json.begin_list()?;
     for place in places {
         let first = place.saturating_sub(4 * AROUND).max(next);
@@ -33,51 +31,43 @@ pub(crate) fn put_listing(
             if address > place.saturating_add(4 * AROUND) {
                 break;
             }
-            left = from_address(left, address);
-            put_row(json, alloc, image, symbols, left, address)?;
+            put_row(json, alloc, image, names, address)?;
             next = address.saturating_add(4);
         }
     }
     json.end_list()
 }
 
-/// The lines of source from an address on.
-fn from_address(sources: &[SourceLine], address: u32) -> &[SourceLine] {
-    let mut left = sources;
-    while let Some((first, after)) = left.split_first() {
-        if first.address >= address {
-            return left;
-        }
-        left = after;
-    }
-    left
-}
-
-/// Puts an instruction at the end, where the image has one there. The lines of source are those from its address on.
+/// Puts an instruction at the end, where the image has one there.
 fn put_row(
     json: &mut Json,
     alloc: Global,
     image: &Image,
-    symbols: &Places,
-    sources: &[SourceLine],
+    names: Names,
     address: u32,
 ) -> Result<(), NoMemory> {
     let Some(word) = word_at(image, address) else {
         return Ok(());
     };
     let mut name = Vec::new(alloc);
-    symbols.write(address, &mut name)?;
+    names.put_place(&mut name, address)?;
     json.begin_line()?;
     json.begin_list()?;
     json.word(address)?;
     json.string(&name)?;
     json.string(&text_of(alloc, word, address)?)?;
-    if let Some((line, _)) = sources.split_first() {
-        if line.address == address {
-            json.string(&line.text)?;
-        }
-    }
+    put_source(json, alloc, names, address)?;
     json.end_list()
+}
+
+/// Puts the file and the line of the source of an address at the end, where they are known.
+fn put_source(json: &mut Json, alloc: Global, names: Names, address: u32) -> Result<(), NoMemory> {
+    let mut source = Vec::new(alloc);
+    names.put_source(alloc, "", address, &mut source)?;
+    if source.is_empty() {
+        return Ok(());
+    }
+    json.string(&source)
 }
 
 /// The instruction that a word at an address stands for, or the word where it stands for none.

@@ -34,8 +34,14 @@ pub(crate) struct Recorder {
 }
 
 impl Recorder {
-    /// A board that goes on where a tracer's has come to, and the data of how it stands there.
-    pub(crate) fn new(alloc: Global, tracer: Tracer, manner: Manner) -> Result<Recorder, NoMemory>
+    /// A board that goes on where a tracer's has come to, and the data of how it stands there. Events were asked for
+    /// from a position on.
+    pub(crate) fn new(
+        alloc: Global,
+        tracer: Tracer,
+        manner: Manner,
+        asked: u64,
+    ) -> Result<Recorder, NoMemory>
         ensures at { IfOk result (λ it. it.playback.at ≡ tracer.playback.at) }
         ensures both { IfOk result (λ it. it.tracer.playback.at ≡ it.playback.at) }
         ensures recorded { (boot : BoardOf) (events : ListOf EventOf) → IsPlayed boot events tracer.playback
@@ -48,7 +54,7 @@ impl Recorder {
         tracer.show(alloc, manner, &mut first)?;
         let playback = tracer.playback.try_copy()?;
         let mut told = Told::new(alloc, &playback.board)?;
-        told.put_begin(&playback)?;
+        told.put_begin(&playback, asked)?;
         let mut text = Json::new(alloc);
         text.extend(&told.json)?;
         Ok(Recorder {

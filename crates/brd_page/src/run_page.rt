@@ -19,11 +19,11 @@ use crate::fault::PageFault;
 use crate::listing::{put_listing, put_names};
 use crate::picture::draw;
 use crate::recorder::Recorder;
-use crate::source::SourceLine;
 use crate::template::{FRONT, MIDDLE, REST};
 use crate::told::Told;
 use brd_base::NoMemory;
 use brd_journal::Journal;
+use brd_lines::Lines;
 use brd_listing::Places;
 use brd_mem::Image;
 use brd_names::Names;
@@ -52,8 +52,10 @@ pub struct Part<'a> {
     pub image: &'a Image,
     /// What happens to it.
     pub journal: &'a Journal,
-    /// The lines of source that are known, by ascending address.
-    pub sources: &'a [SourceLine],
+    /// The lines of its source that are known.
+    pub lines: &'a Lines,
+    /// The position from which on events were asked for: a page may begin later, and says so.
+    pub asked: u64,
     /// The position after the last event.
     pub to: u64,
 }
@@ -83,7 +85,8 @@ pub fn page(alloc: Global, tracer: Tracer, part: Part) -> Result<Vec<u8>, PageFa
     }
     let many = events > ALWAYS_SHOWN;
     let symbols = Places::new(alloc, part.image.symbols.as_slice())?;
-    let mut recorder = Recorder::new(alloc, tracer, manner_of(part.image, &symbols))?;
+    let manner = manner_of(part.image, &symbols);
+    let mut recorder = Recorder::new(alloc, tracer, manner, part.asked)?;
     put_events(alloc, &mut recorder, part, &symbols, many)?;
     let Recorder {
         tracer,
@@ -147,14 +150,8 @@ fn put_places(
     told.words.dedup();
     let mut json = Json::new(alloc);
     json.key("listing")?;
-    put_listing(
-        &mut json,
-        alloc,
-        part.image,
-        symbols,
-        part.sources,
-        &told.places,
-    )?;
+    let names = Names::with_lines(symbols, part.image.segments.as_slice(), part.lines);
+    put_listing(&mut json, alloc, part.image, names, &told.places)?;
     json.key("words")?;
     put_names(&mut json, alloc, symbols, &told.words)?;
     text.end_with(&json)?;

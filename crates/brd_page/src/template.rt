@@ -6,7 +6,7 @@ pub(crate) const FRONT: &str = r##"<!DOCTYPE html>
 <head>
 <meta charset="utf-8">
 <meta name="viewport" content="width=device-width, initial-scale=1">
-<meta http-equiv="Content-Security-Policy" content="default-src 'none'; style-src 'sha256-5Di/5/D96QCi2moJ+904iFgGkCgpc9VEJs5OyaQNNR8='; script-src 'sha256-EzuNHNIMHDNQDl6D7AelPTxUFgT9rTVy9Bl1H13cN/o='; base-uri 'none'; form-action 'none'">
+<meta http-equiv="Content-Security-Policy" content="default-src 'none'; style-src 'sha256-W9botDGDLk0JmGEahRZsutuLH+eaN19tPwnNRcY7WkI='; script-src 'sha256-7TOpNIqtFqP2CU1LEbq+haiH6FhfG/fq/LOvl7hFPE8='; base-uri 'none'; form-action 'none'">
 <title>A run of the board</title>
 <style>/* The look of a page of `board trace --format html`: light or dark as the reader's system is, and for paper. */
 :root {
@@ -36,6 +36,7 @@ summary { cursor: pointer; padding: 0.15rem 0; }
 #picture .scrolls { background: #ffffff; border: 1px solid var(--line); border-radius: 4px; max-height: 45vh; }
 #picture svg { display: block; width: 100%; height: auto; min-width: 46rem; }
 #picture p { color: #1b1b1b; padding: 0 1rem; }
+#left-out { margin: 0 0 0.5rem; padding-left: 0.7rem; border-left: 4px solid var(--fault); }
 #ends { margin: 0.3rem 0; }
 #ends ul { margin: 0 0 0.4rem; padding-left: 1.4rem; }
 #ends li { overflow-wrap: anywhere; }
@@ -58,9 +59,14 @@ button:hover { border-color: var(--chosen); }
   #views { grid-template-columns: minmax(0, 1fr) minmax(0, 1fr); grid-template-rows: auto 1fr; }
   .column:first-child { grid-row: 1 / span 2; }
 }
+@media (min-width: 700px) and (max-width: 1119px) {
+  #views.has-source { grid-template-rows: auto; }
+  #views.has-source .column:first-child { grid-column: 1 / -1; grid-row: 1; }
+}
 @media (min-width: 1120px) {
   #views { grid-template-columns: repeat(3, minmax(0, 1fr)); grid-template-rows: auto; }
   #views.has-source { grid-template-columns: minmax(0, 8fr) minmax(0, 5fr) minmax(0, 5fr); }
+  #views.has-lines { grid-template-columns: minmax(0, 2fr) minmax(0, 1fr) minmax(0, 1fr); }
   .column:first-child { grid-row: 1; }
 }
 @media (max-width: 699px) {
@@ -94,9 +100,11 @@ td .item { white-space: nowrap; }
 #listing td:nth-child(4), #listing td:nth-child(5) { white-space: pre; }
 #listing td:first-child { font-weight: 700; }
 #views:not(.has-source) .source { display: none; }
-/* (The source has the names, too.) */
-#views.has-source #listing tr > :nth-child(3) { display: none; }
+/* (An assembler source has the names, too.) */
+#views.has-source:not(.has-lines) #listing tr > :nth-child(3) { display: none; }
 #views.has-source #listing td:nth-child(4) { max-width: 13rem; overflow: hidden; text-overflow: ellipsis; }
+#views.has-lines #listing td:nth-child(3) { max-width: 6.5rem; overflow: hidden; text-overflow: ellipsis; }
+#views.has-lines #listing td:nth-child(4) { max-width: 11rem; }
 .registers { display: grid; grid-template-columns: repeat(auto-fill, minmax(8rem, 1fr)); gap: 0 0.2rem; margin: 0;
   padding: 0; list-style: none; }
 .item { max-width: 100%; min-height: 24px; text-align: left; border: 1px solid transparent; background: none;
@@ -152,6 +160,7 @@ a { color: var(--chosen); }
 <body>
 <header>
 <h1>A run of the board</h1>
+<p id="left-out" hidden></p>
 <noscript><p>The picture needs no script; all below it does.</p></noscript>
 <details id="picture" open><summary>Picture</summary>
 <div class="scrolls" tabindex="0" role="group" aria-label="Picture">
@@ -186,7 +195,7 @@ pub(crate) const MIDDLE: &str = r##"
 <div id="views">
 <div class="column">
 <section id="listing" aria-labelledby="listing-title"><h2 id="listing-title">Listing</h2>
-<p id="give"><label for="source">Source, to be shown beside:</label> <input id="source" type="file"></p>
+<p id="give"><label for="source">Source, to be shown beside:</label> <input id="source" type="file" multiple></p>
 <div class="scrolls" tabindex="0" role="group" aria-labelledby="listing-title"><table><thead><tr><th scope="col">Here</th><th scope="col">Address</th><th scope="col">Name</th><th scope="col">Instruction</th><th scope="col" class="source">Source</th></tr></thead><tbody></tbody></table></div></section>
 <section id="events" aria-labelledby="events-title"><h2 id="events-title">Events</h2><ol></ol></section>
 </div>
@@ -231,6 +240,7 @@ pub(crate) const REST: &str = r##"</script>
 //
 // The data (element "data", JSON) have the state at the first position and what each event changed:
 //   from, cpus, tasks, tick, off, console    the first position, and how the board stands there
+//   asked     the position from which on events were asked for: those before the first one here were left out
 //   events    objects; of an event
 //     c  its processor      a  the address of its instruction    t  what is said of it     q  nothing happens
 //     r  registers of its processor that it writes, as number, word, number, word ..; 32 is HI, 33 LO, 34 the slot
@@ -238,7 +248,8 @@ pub(crate) const REST: &str = r##"</script>
 //     m  a word of memory, what was there, and of a store what is there then
 //     d  processors on which somebody else executes              s  tasks that differ
 //     o  what it writes to the console      k  the tick          x  it turns the board off
-//   listing   address, name, instruction, and the line of source where there is one
+//   listing   address, name, instruction, the file and the line of the source ("main.c:31") where they are known, and
+//             the text of that line where sdk/sourced has put it there
 //   words     address and name of each word that is loaded or stored
 // A processor is its number, "task", "handler", "idle" or "stopped", the number of the task or of the line, the address
 // of the next instruction, and the registers that aren't 0. A task is its number, state, priority, processor, what it
@@ -271,6 +282,8 @@ const signed = (word) => String(word | 0);
 const plain = (text) => text.replace(/[^ -~]/g, (c) => "\\x" + c.charCodeAt(0).toString(16).padStart(2, "0"));
 // The same, but newlines as they are.
 const lines = (text) => text.split("\n").map(plain).join("\n");
+// A number as it is read.
+const grouped = (number) => String(number).replace(/\B(?=(\d{3})+$)/g, ",");
 // A label without the distance to it.
 const labelOf = (name) => name.replace(/\+0x[0-9a-f]+$/, "");
 
@@ -337,6 +350,10 @@ function characters(word) {
 const withNames = (text) => /^[bj]/.test(text)
   ? text.replace(/0x[0-9a-f]{8}$/, (target) => (rowAt.has(Number(target)) ? run.listing[rowAt.get(Number(target))][1]
     : target)) : text;
+
+// Of addresses whose line of source is known, the file and the line; and of those whose text is known, the text.
+const lineOf = new Map(run.listing.filter((row) => row.length > 3).map((row) => [row[0], plain(row[3])]));
+const sourceOf = new Map(run.listing.filter((row) => row.length > 4).map((row) => [row[0], row[4]]));
 
 // The instruction of an event, as the listing has it; nothing where it isn't known.
 function instructionOf(i) {
@@ -603,6 +620,12 @@ function notKept(i) {
     + names.join(", ") + ": a function leaves these as they were.";
 }
 
+// The line of source that an event is of, where its text is known.
+function sourceLine(i) {
+  const { a } = events[i];
+  return lineOf.has(a) && sourceOf.has(a) ? lineOf.get(a) + ": " + plain(sourceOf.get(a)) : "";
+}
+
 const shown = (i) => plain(withNames(instructionOf(i)));
 const isBranch = (i) => events[i].t === undefined && /^[bj]/.test(instructionOf(i));
 const isConditional = (text) => text[0] === "b" && !/^(beql?|bgezall?) \$zero, (\$zero,|0x)/.test(text);
@@ -633,7 +656,9 @@ function ways(i) {
 function wordsOf(i) {
   const event = events[i];
   const said = [];
-  if (event.a !== undefined) said.push("at " + placeOf(event.a));
+  if (event.a !== undefined) {
+    said.push("at " + placeOf(event.a) + (lineOf.has(event.a) ? " (" + lineOf.get(event.a) + ")" : ""));
+  }
   if (event.i !== undefined || (event.t === undefined && rowAt.has(event.a))) said.push(shown(i));
   if (event.t !== undefined) said.push(plain(event.t));
   if (event.t === undefined) {
@@ -734,14 +759,15 @@ function circle(state) {
     + held.get(object).map((unit) => unit.who + " took at " + after(unit.i)).join(" and "));
 }
 
-// Whether an idle processor may be about to accept an interrupt: one is raised since its last step, and pending.
+// Whether an idle processor may be about to accept an interrupt: one is raised since its last step, and pending. (Before
+// the first position some may have been raised.)
 function isRaised(state) {
   const raised = new Map();
   for (const { i, found } of textsOf(/^(the|accepts the) interrupt of line (\d+)/)) {
     if (found[1] === "the") raised.set(found[2], i);
     else raised.delete(found[2]);
   }
-  const last = Math.max(-1, ...raised.values());
+  const last = Math.max(from === 0 ? -1 : 0, ...raised.values());
   return state.cpus.some((cpu) => cpu.who === "idle"
     && events.findLastIndex((event) => event.c === cpu.number) < last);
 }
@@ -801,7 +827,7 @@ function endOf() {
     if (rows.length > 0) heads.push(rows.length === 1 ? name[0] : rows.length + " " + name[1]);
     found.push(...rows);
   };
-  if (from === 0 && isDeadlock(state)) {
+  if (isDeadlock(state)) {
     add(["deadlock"], [{ text: "deadlock: no task is ready, and no tick and no pending interrupt releases one that "
       + "waits" }]);
   }
@@ -1068,8 +1094,6 @@ function rowText(row) {
 
 // ---- the text of the source, if the reader gives it
 
-// The line of source of an address.
-const sourceOf = new Map(run.listing.filter((row) => row.length > 3).map((row) => [row[0], row[3]]));
 const placeNamed = new Map([...run.listing, ...run.words].map(([address, name]) => [name, address]));
 // The instructions that shorthands stand for, and directives behind which the next thing stands where they do.
 const SHORT = { nop: "sll", move: "addu", b: "beq", beqz: "beq", bnez: "bne", bal: "bgezal" };
@@ -1102,22 +1126,51 @@ function assembled(lines) {
   return found;
 }
 
-// Puts the lines of a file beside the words that they have made.
-function giveSource(name, text) {
-  const found = assembled(text.split(/\r?\n/));
-  if (typeof found === "number") {
-    return say(name + " isn't the source of this run: line " + found + " has another instruction than the listing.");
+// The lines of another source by address: those of a file of this name.
+function compiled(name, lines) {
+  const found = new Map();
+  for (const [address, place] of lineOf) {
+    const [, file, line] = /^(.*):(\d+)$/.exec(place);
+    if (file !== name) continue;
+    if (line > lines.length) return Number(line);
+    found.set(address, lines[line - 1].trim().replace(/\s+/g, " "));
   }
+  return found;
+}
+
+// Puts the lines of a file beside the words that they have made, and answers what is to be said of it.
+function giveSource(name, text) {
+  const lines = text.split(/\r?\n/);
+  const found = lineOf.size > 0 ? compiled(name, lines) : assembled(lines);
+  if (typeof found === "number") {
+    return name + " isn't the source of this run: line " + found + (lineOf.size > 0 ? " isn't there."
+      : " has another instruction than the listing.");
+  }
+  if (found.size === 0) return name + " has no line of the listing.";
   for (const [address, line] of found) sourceOf.set(address, line);
-  firstRow = -1;
-  show();
-  say("The lines of " + name + " stand in the listing.");
+  return "The lines of " + name + " stand in the listing.";
 }
 
 byId("source").addEventListener("change", () => {
-  const [file] = byId("source").files;
-  if (file) file.text().then((text) => giveSource(file.name, text));
+  const files = [...byId("source").files];
+  Promise.all(files.map((file) => file.text())).then((texts) => {
+    const said = texts.map((text, i) => giveSource(files[i].name, text));
+    firstRow = -1;
+    show();
+    say(said.join("\n"));
+  });
 });
+
+// What the listing says of the source of a row: the line with its text, where that is known. Where the row before is of
+// the same line it isn't said again.
+function sourceText(i) {
+  const [address] = run.listing[i];
+  const line = lineOf.get(address), text = sourceOf.get(address);
+  if (line === undefined) return text || "";
+  const before = run.listing[i - 1];
+  if (before && before[0] + 4 === address && lineOf.get(before[0]) === line) return "";
+  return text === undefined ? line : line + "  " + text;
+}
 
 // ---- the listing
 
@@ -1139,7 +1192,8 @@ function showListing() {
     : Math.max(0, Math.min(run.listing.length - ROWS, centre - (centre % (ROWS / 4)) - ROWS / 2));
   if (start !== firstRow) {
     firstRow = start;
-    byId("views").classList.toggle("has-source", sourceOf.size > 0);
+    byId("views").classList.toggle("has-source", sourceOf.size + lineOf.size > 0);
+    byId("views").classList.toggle("has-lines", lineOf.size > 0);
     listBody.replaceChildren();
     for (let i = start; i < Math.min(start + ROWS, run.listing.length); i++) putRow(i);
   }
@@ -1181,7 +1235,7 @@ function putRow(i) {
   cell.append(line.isData ? hex(address) : lineButton(address));
   if (!line.isData && !executed.has(address)) line.classList.add("unused");
   line.append(make("td"), cell, make("td", plain(shortName(i))), make("td", rowText(run.listing[i])),
-    make("td", plain(sourceOf.get(address) || ""), "source"));
+    make("td", plain(sourceText(i)), "source"));
   listBody.append(line);
 }
 
@@ -1289,7 +1343,8 @@ function go(wanted, answer) {
   if (answer) said.push(answer);
   said.push("Position " + position + (position > from ? ", after event " + (position - 1) + ": "
     + wordsOf(position - from - 1) + "." : ", the first of this page."));
-  if (position > from) said.push(writtenOver(position - from - 1), notKept(position - from - 1));
+  const last = position - from - 1;
+  if (last >= 0) said.push(sourceLine(last), writtenOver(last), notKept(last));
   say(said.filter((text) => text !== "").join("\n"));
   clearTimeout(addressed);
   addressed = setTimeout(() => history.replaceState(null, "", "#at=" + position), 100);
@@ -1508,6 +1563,11 @@ for (const panel of panels) {
 if (wordRows.length > 0) wordRows[0].button.isFirst = true;
 byId("memory").querySelector("tbody").append(...wordRows.map((row) => row.line));
 byId("range").textContent = "of " + from + " to " + to;
+if (run.asked < from) {
+  byId("left-out").textContent = "The last " + grouped(events.length) + " of " + grouped(to - run.asked)
+    + " events: a page has no room for more. The others are shown by --from and --to.";
+  byId("left-out").hidden = false;
+}
 byId("slider").min = from;
 byId("slider").max = to;
 byId("order").hidden = isBig !== undefined;

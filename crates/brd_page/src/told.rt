@@ -46,12 +46,13 @@ impl Told {
         })
     }
 
-    /// Puts at the end how the board stands: the position, its processors and tasks, the tick, the console, and whether
-    /// it is off. Then begins the list of the events.
-    pub(crate) fn put_begin(&mut self, playback: &Playback) -> Result<(), NoMemory> {
+    /// Puts at the end how the board stands: the position, the one from which on events were asked for, its processors
+    /// and tasks, the tick, the console, and whether it is off. Then begins the list of the events.
+    pub(crate) fn put_begin(&mut self, playback: &Playback, asked: u64) -> Result<(), NoMemory> {
         let json = &mut self.json;
         json.begin_object()?;
         json.member("from", playback.at)?;
+        json.member("asked", asked)?;
         json.key("cpus")?;
         json.begin_list()?;
         for processor in self.processors.as_slice() {
