@@ -256,6 +256,7 @@ races: all
 
 page: all
 	@$(call traced,--format html $(TRACEFLAGS)) > $(BUILD)/$(PROGRAM).html
+	@$(SDK)/sourced $(BUILD)/$(PROGRAM).html $(wildcard $(ALL_SOURCES) *.h $(SDK)/lib/*.[cS] $(SDK)/include/*.h)
 	@echo "$(BUILD)/$(PROGRAM).html"
 
 # Of all journals of PROGRAM, or of the one that the command line names.
