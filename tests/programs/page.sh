@@ -9,12 +9,6 @@ page() {
     "$board" trace --format html "${@:3}" < /dev/null > "$2" 2> "$work/err" || fail "page: $1" "$(cat "$work/err")"
 }
 
-# refused NAME ERROR ARGUMENT..: no page is made, which one line of an error says.
-refused() {
-    "$board" trace --format html "${@:3}" < /dev/null > "$work/out" 2> "$work/err"
-    check "page: $1" 2 "$work/nothing" "$2" $?
-}
-
 # Runs of the examples, and of the scenes that have lines: `names`, and of each an image, a configuration and a journal.
 names=()
 # shown NAME IMAGE CONFIG JOURNAL: makes a page of a run.
@@ -43,14 +37,17 @@ done
 lost=("$work/lost_update-racy.elf" examples/lost_update/racy.cfg examples/lost_update/racy.journal)
 page "a part" "$work/part.html" --from 5 --to 20 "${lost[@]}"
 
-# Its limits: 100,000 events, and 8 MiB for more than 1,000.
-cat > "$work/long.journal" << 'END'
-board-journal 1
-S 1 100001
-END
-too_much="board: the trace: it is more than a page can show: choose fewer events by --from and --to"
-refused "more than 100,000 events" "$too_much" "${lost[@]:0:2}" "$work/long.journal"
+# Its limits: 100,000 events, and 8 MiB for more than 1,000. Of more the last ones are shown.
+printf 'board-journal 1\nS 1 60000\nS 2 40020\n' > "$work/long.journal"
+shown last "${lost[@]:0:2}" "$work/long.journal"
 page "100,000 events" "$work/long.html" --to 100000 "${lost[@]:0:2}" "$work/long.journal"
+# last NAME COUNT PAGE: a page has the last events alone, so many of them.
+last() {
+    verdict "page: $1" "$(grep -o '"from":[0-9]*,"asked":[0-9]*' "$3" | grep -qx "\"from\":$2,\"asked\":0" ||
+        head -c 300 <(grep -o '"from":.*' "$3"))"
+}
+last "more than 100,000 events" 20 "$work/last.html"
+last "100,000 events, all of them" 0 "$work/long.html"
 cat > "$work/wide.cfg" << 'END'
 BOARD(1, 0x10000);
 CRE_TSK(1, {TA_ACT, 1, main, 1, 256, NULL});
@@ -66,8 +63,11 @@ END
     echo "        nop"
 } > "$work/wide.s"
 "$board" asm "$work/wide.s" "$work/wide.elf"
-refused "more than 8 MiB" "$too_much" --to 100000 "$work/wide.elf" "$work/wide.cfg" "$work/long.journal"
-page "the beginning of that" "$work/wide.html" --to 5000 "$work/wide.elf" "$work/wide.cfg" "$work/long.journal"
+printf 'board-journal 1\nS 1 100000\n' > "$work/wide.journal"
+page "more than 8 MiB" "$work/half.html" "$work/wide.elf" "$work/wide.cfg" "$work/wide.journal"
+last "more than 8 MiB" 50000 "$work/half.html"
+[ "$(stat -c %s "$work/half.html")" -le 8388608 ] || fail "page: more than 8 MiB" "it has more"
+page "the beginning of that" "$work/wide.html" --to 5000 "$work/wide.elf" "$work/wide.cfg" "$work/wide.journal"
 {
     echo "main:"
     printf 'a%.0s' {1..60000}
@@ -77,12 +77,22 @@ page "the beginning of that" "$work/wide.html" --to 5000 "$work/wide.elf" "$work
     echo "        nop"
 } > "$work/named.s"
 "$board" asm "$work/named.s" "$work/named.elf"
-refused "more than 8 MiB of names" "$too_much" --to 1001 "$work/named.elf" "$work/wide.cfg" "$work/long.journal"
+page "more than 8 MiB of names" "$work/named.out" --to 1001 "$work/named.elf" "$work/wide.cfg" "$work/wide.journal"
+last "more than 8 MiB of names" 1 "$work/named.out"
 page "1,000 events in more than 8 MiB" "$work/named.out" --to 1000 \
-    "$work/named.elf" "$work/wide.cfg" "$work/long.journal"
+    "$work/named.elf" "$work/wide.cfg" "$work/wide.journal"
 [ "$(stat -c %s "$work/named.out")" -gt 8388608 ] || fail "page: 1,000 events in more than 8 MiB" "they need less"
 cmp -s <("$board" trace --format html --cpu 1 --instructions "${lost[@]}") "$work/lost_update-racy.html" ||
     fail "page: --cpu and --instructions" "they change the page"
+
+# Lines of C, by the object file and by its text.
+if have mips-linux-gnu-gcc "page: lines of C"; then
+    make -s -C examples/c_program BUILD="$work/c" BOARD="$board" page > "$work/out" 2> "$work/err" ||
+        fail "page: lines of C" "$(cat "$work/err")"
+    page "lines of C" "$work/lines.html" "$work/c/firmware.elf" "$work/c/firmware.cfg" "$work/c/trace.journal"
+    cp "$work/c/firmware.html" "$work/texts.html"
+    verdict "page: the text of C" "$(grep -qE ',"firmware\.c:[0-9]+","' "$work/texts.html" || echo "it has none")"
+fi
 
 # The texts of an image whose names would be markup or script, if they became a part of the page.
 hostile=("$work/hostile.elf" "$work/hostile.cfg" "$work/hostile.journal")

@@ -22,8 +22,10 @@ use Rattle.brd_command.specs.TraceCommand.{EndsTracing, IsOfWriting, TraceEnds, 
 use Rattle.brd_command.specs.TraceCommand.{IsPart, IsMannerOf, IsShown, WritesForm, first_of, end_of, head, words_asked}
 use Rattle.brd_summary.specs.Summary.{IsEnd, IsSummary}
 use Rattle.brd_report.specs.Output.{Writes}
-use Rattle.brd_command.specs.TraceCommand.{EndsDrawing, EndsPaging, TellsSpins, WritesAsked}
-use Rattle.brd_page.specs.Page.{IsRunPage, always_shown}
+use Rattle.brd_command.specs.TraceCommand.{EndsDrawing, IsKnown, TellsSpins, WritesAsked}
+use Rattle.brd_trace.specs.Recorded.{IsNoted}
+use Rattle.brd_trace.specs.declared.tracer.Tracer.{Tracer}
+use Rattle.brd_page.specs.Page.{IsLastPage}
 use Rattle.brd_page.specs.Picture.{IsPicture, IsUndrawn}
 use Rattle.brd_command.specs.TraceCommand.{EndsRacing, KeepsFromTracing, WritesAllRaces, WritesAllStacks, WritesOther, WritesShown}
 use Rattle.brd_command.specs.RacesCommand.{AreTooMany, WritesRaces}
@@ -284,69 +286,23 @@ svg-ends start options part old new (Ok done) is svg races stacks lines written 
     let both = subst (λ (n : ℕ). Writes (IsPicture start.board start.journal.events (first_of options) n) old new) is.to from_there in
     (in-order options len part is, formed start options old new races stacks lines Svg (is.format ∙ ap Some svg) both)
 
--- a page was made, which the options ask for
+-- a page was written, which the options ask for
 
-pub page-ends : (boot : BoardState) (events : List Event) (from to : ℕ) (bytes : List ℕ) (old new : Option (List ℕ))
-    (result : Result Unit CommandFault) → IsRunPage boot events from to bytes → MatchResult result (λ _. Appends old new bytes) IsOfWriting →
-    EndsPaging result boot events from to old new
-page-ends boot events from to bytes old new (Ok done) is written = record { bytes = bytes; are_meant = is; written = written }
-page-ends boot events from to bytes old new (Err fault.NoMemory) is of = tt
-page-ends boot events from to bytes old new (Err fault.Argument) is of = absurd of
-page-ends boot events from to bytes old new (Err (fault.Words a)) is of = absurd of
-page-ends boot events from to bytes old new (Err (fault.Source a b c)) is of = absurd of
-page-ends boot events from to bytes old new (Err fault.ImageTooLarge) is of = absurd of
-page-ends boot events from to bytes old new (Err (fault.Open a b)) is of = absurd of
-page-ends boot events from to bytes old new (Err (fault.Read a b)) is of = absurd of
-page-ends boot events from to bytes old new (Err (fault.TooLong a)) is of = absurd of
-page-ends boot events from to bytes old new (Err (fault.TooManyReads a)) is of = absurd of
-page-ends boot events from to bytes old new (Err (fault.Build a b)) is of = absurd of
-page-ends boot events from to bytes old new (Err (fault.Journal a b)) is of = absurd of
-page-ends boot events from to bytes old new (Err (fault.OtherOrder a)) is of = absurd of
-page-ends boot events from to bytes old new (Err (fault.Script a b)) is of = absurd of
-page-ends boot events from to bytes old new (Err (fault.Race a)) is of = absurd of
-page-ends boot events from to bytes old new (Err (fault.Trace a)) is of = absurd of
-page-ends boot events from to bytes old new (Err (fault.Schedule a)) is of = absurd of
-page-ends boot events from to bytes old new (Err (fault.Search a)) is of = absurd of
-page-ends boot events from to bytes old new (Err fault.Fails) is of = absurd of
-page-ends boot events from to bytes old new (Err fault.Passes) is of = absurd of
-page-ends boot events from to bytes old new (Err (fault.Write a)) is of = tt
-
-of_paging : (fault : CommandFault) (options : TraceOptions) (start : Start) (from to : ℕ) (old new : Option (List ℕ)) →
-    options.format ≡ Some Html → options.summary ≡ false → from ≡ first_of options → to ≡ end_of options (length start.journal.events) →
-    EndsPaging (Err fault) start.board start.journal.events from to old new → EndsTracing (Err fault) options start old new
-of_paging fault.NoMemory options start from to old new format lines first last of = tt
-of_paging fault.Argument options start from to old new format lines first last of = absurd of
-of_paging (fault.Words a) options start from to old new format lines first last of = absurd of
-of_paging (fault.Source a b c) options start from to old new format lines first last of = absurd of
-of_paging fault.ImageTooLarge options start from to old new format lines first last of = absurd of
-of_paging (fault.Open a b) options start from to old new format lines first last of = absurd of
-of_paging (fault.Read a b) options start from to old new format lines first last of = absurd of
-of_paging (fault.TooLong a) options start from to old new format lines first last of = absurd of
-of_paging (fault.TooManyReads a) options start from to old new format lines first last of = absurd of
-of_paging (fault.Build a b) options start from to old new format lines first last of = absurd of
-of_paging (fault.Journal a b) options start from to old new format lines first last of = absurd of
-of_paging (fault.OtherOrder a) options start from to old new format lines first last of = absurd of
-of_paging (fault.Script a b) options start from to old new format lines first last of = absurd of
-of_paging (fault.Race a) options start from to old new format lines first last of = absurd of
-of_paging (fault.Trace a) options start from to old new format lines first last of =
-    let many = subst (λ (n : ℕ). always_shown < n - first_of options) last (subst (λ (n : ℕ). always_shown < to - n) first of.1.0) in
-    (subst (λ (f : TraceFault). KeepsFromTracing options start f) (sym of.0) (format, (lines, many)), of.1.1)
-of_paging (fault.Schedule a) options start from to old new format lines first last of = absurd of
-of_paging (fault.Search a) options start from to old new format lines first last of = absurd of
-of_paging fault.Fails options start from to old new format lines first last of = absurd of
-of_paging fault.Passes options start from to old new format lines first last of = absurd of
-of_paging (fault.Write a) options start from to old new format lines first last of = tt
+pub page-written : (boot : BoardState) (events : List Event) (from to : ℕ) (bytes : List ℕ) (old new : Option (List ℕ))
+    (result : Result Unit CommandFault) → IsLastPage boot events from to bytes → MatchResult result (λ _. Appends old new bytes) IsOfWriting →
+    MatchResult result (λ _. Writes (IsLastPage boot events from to) old new) IsOfWriting
+page-written boot events from to bytes old new (Ok done) is written = record { bytes = bytes; are_meant = is; written = written }
+page-written boot events from to bytes old new (Err fault) is of = of
 
 pub html-ends : (start : Start) (options : TraceOptions) (part : Part) (old new : Option (List ℕ)) (result : Result Unit CommandFault)
     → IsPart options (length start.journal.events) part → part.format ≡ Html → options.races ≡ false → options.stacks ≡ false → options.summary ≡ false
-    → EndsPaging result start.board start.journal.events part.from part.to old new
+    → MatchResult result (λ _. Writes (IsLastPage start.board start.journal.events part.from part.to) old new) IsOfWriting
     → EndsTracing result options start old new
-html-ends start options part old new (Err fault) is html races stacks lines of =
-    of_paging fault options start part.from part.to old new (is.format ∙ ap Some html) lines is.from is.to of
+html-ends start options part old new (Err fault) is html races stacks lines of = of_writing fault options start old new of
 html-ends start options part old new (Ok done) is html races stacks lines written =
     let events = start.journal.events in
-    let from_there = subst (λ (n : ℕ). Writes (IsRunPage start.board events n part.to) old new) is.from written in
-    let both = subst (λ (n : ℕ). Writes (IsRunPage start.board events (first_of options) n) old new) is.to from_there in
+    let from_there = subst (λ (n : ℕ). Writes (IsLastPage start.board events n part.to) old new) is.from written in
+    let both = subst (λ (n : ℕ). Writes (IsLastPage start.board events (first_of options) n) old new) is.to from_there in
     (in-order options (length events) part is, formed start options old new races stacks lines Html (is.format ∙ ap Some html) both)
 
 -- races were looked for, as the options ask
@@ -430,6 +386,15 @@ pub begins : (events : List Event) (p : Playback) → p.at ≡ 0 → IsPlayed p.
 begins events p start =
     let none : p.board ≡ board_at p.board events 0 = search rules in
     record { board = subst (λ (n : ℕ). p.board ≡ board_at p.board events n) (sym start) none; within = omega (arith, start) }
+
+-- what a tracer knows of such a board is so
+pub known : (board : BoardState) (events : List Event) (tracer : Tracer) → tracer.playback ≡ record { board = board; at = 0 } →
+    IsNoted board events 0 tracer.notes → IsKnown tracer.playback.board events tracer
+known board events tracer start noted = record {
+  played = begins events tracer.playback (ap (λ (p : Playback). p.at) start);
+  noted = subst (λ (n : ℕ). IsNoted tracer.playback.board events n tracer.notes) (sym (ap (λ (p : Playback). p.at) start))
+      (subst (λ (b : BoardState). IsNoted b events 0 tracer.notes) (sym (ap (λ (p : Playback). p.board) start)) noted);
+}
 
 module _ (names : Names) (symbols : List Symbol) (boot : BoardState) (events : List Event) (n : ℕ) (old mid new : Option (List ℕ))
     (first rest last bytes : List ℕ) (is_first : IsEnd boot events n first) (is_rest : IsSummary names boot events n rest)

@@ -1,5 +1,5 @@
 -- The command `trace`: from what it starts, what it writes then, and how it ends where it doesn't.
-use Rattle.std.specs.Prelude.{◌≡◌, ◌≢◌, ◌⊎◌, ℕ, ◌-◌, ◌<◌, ◌≤◌, min, true, false, List, length, ◌++◌, codes, Option, Some, None}
+use Rattle.std.specs.Prelude.{◌≡◌, ◌≢◌, ◌⊎◌, ℕ, ◌<◌, ◌≤◌, min, true, false, List, length, ◌++◌, codes, Option, Some, None}
 use Rattle.std.specs.Prelude.{[], is_some, option_map, unwrap_or, Result, Ok, Err}
 use Rattle.std.specs.Bool.{MatchBool}
 use Rattle.std.specs.Io.KnownBytes.{Appends, Keeps}
@@ -13,7 +13,7 @@ use Rattle.brd_timeline.specs.Events.{json_text}
 use Rattle.brd_spins.specs.declared.spin.Spin.{Spin}
 use Rattle.brd_spins.specs.Since.{AreSpins}
 use Rattle.brd_spins.specs.Text.{spins_text}
-use Rattle.brd_page.specs.Page.{IsRunPage, always_shown}
+use Rattle.brd_page.specs.Page.{IsLastPage}
 use Rattle.brd_page.specs.Picture.{IsPicture, IsUndrawn}
 use Rattle.brd_names.specs.declared.names.Names.{Names}
 use Rattle.brd_printer.specs.declared.printer.{Manner.Manner, Printer.Printer}
@@ -82,7 +82,7 @@ of_words no.NoSymbol = Trace NoSymbol
 of_words no.NoWord = Trace NoWord
 
 -- Why there is no trace: the options give no part of the journal, or name no words; or they ask for a picture, which
--- has too much to draw, for a page of more events than are shown in any case, or for races among too many touches.
+-- has too much to draw, or for races among too many touches.
 abbrev pub KeepsFromTracing : TraceOptions → Start → TraceFault → Type 0
 KeepsFromTracing options start NoSuchFormat = KeepsFromAsking options (length start.journal.events) NoSuchFormat
 KeepsFromTracing options start (NoEvents from to all) =
@@ -92,9 +92,7 @@ KeepsFromTracing options start NoWord = words_asked options start ≡ Err no.NoW
 KeepsFromTracing options start TooMuch =
     (options.format ≡ Some Svg) × (options.summary ≡ false)
     × IsUndrawn start.board start.journal.events (first_of options) (end_of options (length start.journal.events))
-KeepsFromTracing options start TooLong =
-    (options.format ≡ Some Html) × (options.summary ≡ false)
-    × (always_shown < end_of options (length start.journal.events) - first_of options)
+KeepsFromTracing options start TooLong = ⊥
 KeepsFromTracing options start TooManySteps = ⊥
 KeepsFromTracing options start TooManyTouches =
     (options.races ≡ true)
@@ -209,8 +207,8 @@ pub record WritesTimeline (boot : BoardState) (events : List Event) (from to : �
   pub are_slices : AreSlices boot events from to timeline
   pub written : Appends old new (json_text timeline)
 
--- What is written in each form. Pictures and pages are those of brd_page. Of counts it is said that their last line is
--- whole.
+-- What is written in each form. Pictures and pages are those of brd_page; a page may be of the last events alone. Of
+-- counts it is said that their last line is whole.
 abbrev pub WritesForm : Option TraceFormat → Start → TraceOptions → Option (List ℕ) → Option (List ℕ) → Type 0
 WritesForm None start options old new = ⊥
 WritesForm (Some Text) start options old new = WritesTrace start options old new
@@ -221,7 +219,7 @@ WritesForm (Some Svg) start options old new =
     Writes (IsPicture start.board start.journal.events (first_of options) (end_of options (length start.journal.events)))
     old new
 WritesForm (Some Html) start options old new =
-    Writes (IsRunPage start.board start.journal.events (first_of options) (end_of options (length start.journal.events)))
+    Writes (IsLastPage start.board start.journal.events (first_of options) (end_of options (length start.journal.events)))
     old new
 WritesForm (Some Lcov) start options old new = Writes (EndsWith (codes "\n")) old new
 WritesForm (Some Callgrind) start options old new = Writes (EndsWith (codes "\n")) old new
@@ -279,15 +277,6 @@ EndsDrawing (Ok done) boot events from to old new = Writes (IsPicture boot event
 EndsDrawing (Err (Trace fault)) boot events from to old new =
     (fault ≡ TooMuch) × (IsUndrawn boot events from to × Keeps old new)
 EndsDrawing (Err fault) boot events from to old new = IsOfWriting fault
-
--- How a page ends that has begun: it is written, or there are more events than are shown in any case, and then nothing
--- is; or as above.
-abbrev pub EndsPaging : Result Unit CommandFault → BoardState → List Event → ℕ → ℕ → Option (List ℕ) →
-    Option (List ℕ) → Type 0
-EndsPaging (Ok done) boot events from to old new = Writes (IsRunPage boot events from to) old new
-EndsPaging (Err (Trace fault)) boot events from to old new =
-    (fault ≡ TooLong) × ((always_shown < to - from) × Keeps old new)
-EndsPaging (Err fault) boot events from to old new = IsOfWriting fault
 
 -- how races end that are looked for: they are written, or there are too many touches, and then nothing is; or as above
 abbrev pub EndsRacing : Result Unit CommandFault → Names → List QueueConfig → BoardState → List Event → ℕ →

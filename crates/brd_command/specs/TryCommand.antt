@@ -1,5 +1,5 @@
 -- The command `try`: what it runs of what it reads, what it writes of that, which files get it, and how it ends.
-use Rattle.std.specs.Prelude.{◌≡◌, ◌⊎◌, ℕ, ◌<◌, false, List, length, ◌++◌, codes, Option, None, Some, IfSome}
+use Rattle.std.specs.Prelude.{◌≡◌, ◌⊎◌, ℕ, false, List, length, ◌++◌, codes, Option, None, Some, IfSome}
 use Rattle.std.specs.Prelude.{Result, Ok, Err, IsErrAnd}
 use Rattle.std.specs.Bool.{MatchBool}
 use Rattle.std.specs.Io.KnownBytes.{Appends, Keeps}
@@ -11,13 +11,12 @@ use Rattle.brd_inputs.specs.FileKinds.{is_object_file}
 use Rattle.brd_inputs.specs.Input.{KeepsFromReading}
 use Rattle.brd_inputs.specs.Start.{IsStart, KeepsFromMaking}
 use Rattle.brd_inputs.specs.declared.fault.CommandFault.{CommandFault}
-use Rattle.brd_inputs.specs.declared.fault.CommandFault.TheVariants.{NoMemory, Trace, Write}
+use Rattle.brd_inputs.specs.declared.fault.CommandFault.TheVariants.{NoMemory, Write}
 use Rattle.brd_inputs.specs.declared.input_name.InputName.TheVariants as input_name
 use Rattle.brd_inputs.specs.declared.start.Start.{Start}
-use Rattle.brd_inputs.specs.declared.trace_fault.TraceFault.TheVariants.{TooManySteps}
 use Rattle.brd_journal.specs.Journal.{JournalState, most_runs}
 use Rattle.brd_journal.specs.Reading.{journal_of}
-use Rattle.brd_page.specs.Page.{IsRunPage, always_shown}
+use Rattle.brd_page.specs.Page.{IsLastPage}
 use Rattle.brd_report.specs.Output.{WritesFront}
 use Rattle.brd_try.specs.Told.{IsTold}
 use Rattle.brd_try.specs.Tries.{IsTried, KeepsFromTrying}
@@ -83,22 +82,11 @@ pub data SavesBoth {F W : Type 0} (created : F → List ℕ → Result W Error �
       Saves created closed contents between (Some (name ++ codes ".journal")) journal result new →
       SavesBoth created closed contents old keep config journal result new
 
--- a page of the run of a board of an object file and a configuration, under all events of a journal
+-- A page of the run of a board of an object file and a configuration, under all events of a journal, or the last ones.
 pub record IsPageOf (object config journal page : List ℕ) : Type 0 where
   pub start : Start
   pub is_start : IsStart object config journal start
-  pub is_page : IsRunPage start.board start.journal.events 0 (length start.journal.events) page
-
--- they make a board, and the journal has more events than a page shows in any case
-pub record IsLongRun (object config journal : List ℕ) : Type 0 where
-  pub start : Start
-  pub is_start : IsStart object config journal start
-  pub many : always_shown < length start.journal.events
-
--- Why there is no page of what was run: it would be too long; or there is nothing to run.
-abbrev pub KeepsFromPaging : List ℕ → List ℕ → List ℕ → CommandFault → Type 0
-KeepsFromPaging object config journal (Trace fault) = (fault ≡ TooManySteps) × IsLongRun object config journal
-KeepsFromPaging object config journal fault = KeepsFromMaking input_name.Journal object config journal fault
+  pub is_page : IsLastPage start.board start.journal.events 0 (length start.journal.events) page
 
 -- where a file is named for it, a page of what was run goes there
 pub data SavesPage {F W : Type 0} (created : F → List ℕ → Result W Error → F → Type 0) (closed : F → W → F → Type 0)
@@ -106,8 +94,8 @@ pub data SavesPage {F W : Type 0} (created : F → List ℕ → Result W Error �
     (result : Result Unit CommandFault) (new : F) : Type 0 where
   no_name : name ≡ None → result ≡ Ok tt → new ≡ old →
       SavesPage created closed contents old name object config journal result new
-  no_page : {fault : CommandFault} → KeepsFromPaging object config journal fault → result ≡ Err fault → new ≡ old →
-      SavesPage created closed contents old name object config journal result new
+  no_page : {fault : CommandFault} → KeepsFromMaking input_name.Journal object config journal fault →
+      result ≡ Err fault → new ≡ old → SavesPage created closed contents old name object config journal result new
   paged : {page : List ℕ} → IsPageOf object config journal page → Saves created closed contents old name page result new →
       SavesPage created closed contents old name object config journal result new
 

@@ -20,6 +20,7 @@ mod trace_command;
 mod trace_counts;
 mod trace_lines;
 mod trace_options;
+mod trace_pages;
 mod try_command;
 
 pub use brd_inputs::{CommandFault, Files, Inputs, Pair};

@@ -7,7 +7,6 @@ ghost use Rattle.brd_report.specs.Output.{Writes};
 ghost use Rattle.brd_command.specs.TraceFiles.{TraceFilesEnd};
 ghost use Rattle.brd_command.specs.TraceCommand.{
   EndsDrawing,
-  EndsPaging,
   EndsTracing,
   IsFollowed,
   IsKnown,
@@ -41,7 +40,7 @@ use brd_lines::Source;
 use brd_listing::Places;
 use brd_mem::Image;
 use brd_names::Names;
-use brd_page::{PageFault, draw, page};
+use brd_page::draw;
 use brd_printer::{Manner, Options, WordsFault, add_words};
 use brd_progress::Progress;
 use brd_report::write_whole;
@@ -201,7 +200,7 @@ fn write_trace<W: Write, P: Progress>(
         TraceFormat::Text => traced.write_text(tracer, options, writer, progress),
         TraceFormat::Json => traced.write_json(tracer, writer, progress),
         TraceFormat::Svg => traced.write_svg(tracer, writer, progress),
-        TraceFormat::Html => traced.write_html(tracer, writer, progress),
+        TraceFormat::Html => traced.write_html(&source.lines, tracer, writer, progress),
         TraceFormat::Lcov => traced.write_lcov(source, tracer, writer, progress),
         TraceFormat::Callgrind => traced.write_callgrind(source, tracer, writer, progress),
     }
@@ -414,37 +413,6 @@ impl<'a> Traced<'a> {
             Ok(text) => written(writer, &text),
             Err(PictureFault::NoMemory) => Err(CommandFault::NoMemory),
             Err(PictureFault::TooMuch) => Err(CommandFault::Trace(TraceFault::TooMuch)),
-        }
-    }
-
-    /// Writes the page of the part.
-    fn write_html<W: Write, P: Progress>(
-        &self,
-        tracer: Tracer,
-        writer: &mut W,
-        progress: &mut P,
-    ) -> Result<(), CommandFault>
-        requires start { tracer.playback.at ≡ 0 }
-        requires from { self.now.part.from ≤ self.now.part.to }
-        requires within { self.now.part.to ≤ length self.now.journal.now.events }
-        requires knows { IsKnown tracer.playback.board self.now.journal.now.events tracer }
-        ensures { EndsPaging result tracer.playback.board self.now.journal.now.events self.now.part.from
-            self.now.part.to (W.contents writer.old) (W.contents writer.new) }
-    {
-        let mut tracer = tracer;
-        tracer.printer.options.cpu = None;
-        tracer.printer.options.touching = false;
-        self.skip(&mut tracer, self.part.from, progress)?;
-        let shown = brd_page::Part {
-            image: self.image,
-            journal: self.journal,
-            sources: &[],
-            to: self.part.to,
-        };
-        match page(self.alloc, tracer, shown) {
-            Ok(page) => written(writer, &page),
-            Err(PageFault::NoMemory) => Err(CommandFault::NoMemory),
-            Err(PageFault::TooMuch) => Err(CommandFault::Trace(TraceFault::TooLong)),
         }
     }
 }

@@ -1,23 +1,26 @@
 //! The command `try`.
 
 ghost use Rattle.std.specs.Prelude.{◌≡◌, ◌++◌, false, IfOk, IfSome, MatchResult, option_map, string_bytes};
-ghost use Rattle.brd_command.specs.TryCommand.{IsObjectOf, IsPageOf, IsTriedOf, KeepsFromPaging, KeepsFromTryingIt};
+ghost use Rattle.brd_command.specs.TryCommand.{IsObjectOf, IsPageOf, IsTriedOf, KeepsFromTryingIt};
 ghost use Rattle.brd_command.specs.TryCommand.{RefusesTrying, SavesBoth, SavesPage, Tries, TryFilesEnd};
 ghost use Rattle.brd_running.specs.AsmCommand.{KeepsFromAssembling};
 ghost use Rattle.brd_inputs.specs.FileKinds.{is_object_file as looks_like_one};
+ghost use Rattle.brd_inputs.specs.Start.{KeepsFromMaking};
+ghost use Rattle.brd_inputs.specs.declared.input_name.InputName.TheVariants as input_name;
 
-use crate::trace_command::lines_of;
+use crate::trace_command::{Part, Traced, lines_of};
+use crate::trace_options::TraceFormat;
 use brd_base::NoMemory;
 use brd_inputs::{
-    CommandFault, Files, InputName, Start, Texts, TraceFault, is_object_file, make_start,
-    read_whole,
+    CommandFault, Files, InputName, Start, Texts, is_object_file, make_start, read_whole,
 };
-use brd_page::{PageFault, Part, page};
-use brd_printer::Options;
-use brd_progress::Progress;
+use brd_lines::read_lines;
+use brd_listing::Places;
+use brd_names::Names;
+use brd_printer::{Manner, Options};
+use brd_progress::{Progress, Quiet};
 use brd_report::write_whole;
 use brd_running::{object_file, save, warn_of_source, with_others};
-use brd_trace::Tracer;
 use brd_try::{TryOptions, try_object};
 use std::alloc::Global;
 use std::io::{Read, Write};
@@ -194,7 +197,7 @@ fn save_page<F: Files>(
 fn page_of(alloc: Global, texts: &Texts) -> Result<Vec<u8>, CommandFault>
     ensures { MatchResult result
         (λ page. IsPageOf texts.now.image.items texts.now.config.items texts.now.last.items page.items)
-        (KeepsFromPaging texts.now.image.items texts.now.config.items texts.now.last.items) }
+        (KeepsFromMaking input_name.Journal texts.now.image.items texts.now.config.items texts.now.last.items) }
 {
     let Start {
         board,
@@ -205,6 +208,23 @@ fn page_of(alloc: Global, texts: &Texts) -> Result<Vec<u8>, CommandFault>
         Ok(start) => start,
         Err(fault) => return Err(fault),
     };
+    let lines = read_lines(alloc, &texts.image)?;
+    let symbols = Places::new(alloc, image.symbols.as_slice())?;
+    let traced = Traced {
+        alloc,
+        manner: Manner {
+            names: Names::new(&symbols, image.segments.as_slice()),
+            order: image.order,
+            words: &[],
+        },
+        image: &image,
+        journal: &journal,
+        part: Part {
+            format: TraceFormat::Html,
+            from: 0,
+            to: journal.len(),
+        },
+    };
     let shown = Options {
         cpu: None,
         instructions: false,
@@ -212,16 +232,6 @@ fn page_of(alloc: Global, texts: &Texts) -> Result<Vec<u8>, CommandFault>
         shown: false,
         lines: lines_of(&config),
     };
-    let tracer = Tracer::new(alloc, board, shown)?;
-    let part = Part {
-        image: &image,
-        journal: &journal,
-        sources: &[],
-        to: journal.len(),
-    };
-    match page(alloc, tracer, part) {
-        Ok(page) => Ok(page),
-        Err(PageFault::NoMemory) => Err(CommandFault::NoMemory),
-        Err(PageFault::TooMuch) => Err(CommandFault::Trace(TraceFault::TooManySteps)),
-    }
+    let page = traced.last_page(&board, shown, &lines, &mut Quiet)?;
+    Ok(page)
 }

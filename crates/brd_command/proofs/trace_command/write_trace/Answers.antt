@@ -2,14 +2,15 @@ use Rattle.std.proofs.Common.{ℕ, List, ◌≡◌, ◌++◌, refl, sym, ap, ◌
 use Rattle.std.specs.Prelude.{MatchResult, Ok}
 use Rattle.brd_board.specs.Board.{BoardState}
 use Rattle.brd_board.specs.declared.event.Event.{Event}
-use Rattle.brd_trace.specs.declared.tracer.Tracer.{Tracer}
 use Rattle.brd_printer.specs.declared.printer.{Manner.Manner}
 use Rattle.brd_printer.specs.Telling.{shown_by}
 use Rattle.brd_trace.specs.Recorded.{IsNoted}
 use Rattle.brd_trace.specs.Dated.{IsDated}
 use Rattle.brd_journal.specs.declared.playback.Playback.{Playback}
-use Rattle.brd_command.specs.TraceCommand.{KeepsFromAsking, IsPart, IsOfWriting, WritesSummary, WritesText, WritesTimeline, EndsDrawing, EndsPaging, IsKnown}
-use Rattle.brd_command.proofs.TraceLemmas.{begins, html-ends, json-ends, svg-ends, races-end, stacks-end, summary-ends, text-ends, not_asked, not_chosen}
+use Rattle.brd_command.specs.TraceCommand.{KeepsFromAsking, IsPart, IsOfWriting, WritesSummary, WritesText, WritesTimeline, EndsDrawing}
+use Rattle.brd_page.specs.Page.{IsLastPage}
+use Rattle.brd_report.specs.Output.{Writes}
+use Rattle.brd_command.proofs.TraceLemmas.{begins, known, html-ends, json-ends, svg-ends, races-end, stacks-end, summary-ends, text-ends, not_asked, not_chosen}
 use Rattle.brd_command.proofs.trace_command.write_trace.Goals as goal
 
 -- The part is that of the whole journal, the tracer has the board of the start, and it shows what the options ask for.
@@ -67,7 +68,8 @@ returns-in-Html g c =
     let new = g.W.Write.contents c.write_html.new.writer in
     html-ends start c.args.options c.in-Ok.part old new c.write_html.result
     (subst (λ (n : ℕ). IsPart c.args.options n c.in-Ok.part) c.len.ensures.len c.in-Ok.ensures) c.in-Html.is c.if-options.false c.if-options-2.false c.if-options-3.false
-    (subst (λ (b : BoardState). EndsPaging c.write_html.result b start.journal.events c.in-Ok.part.from c.in-Ok.part.to old new)
+    (subst (λ (b : BoardState). MatchResult c.write_html.result
+    (λ _. Writes (IsLastPage b start.journal.events c.in-Ok.part.from c.in-Ok.part.to) old new) IsOfWriting)
     (ap (λ p. p.board) c.in_ok-tracer.ensures.start) c.write_html.ensures)
 
 -- The options give no part of the journal, or name no words.
@@ -123,14 +125,6 @@ write_summary-requires-clause-follows g c =
           (subst (λ (b : BoardState). IsDated b events 0 tracer.notes) board (made.dated events));
     }
 
-known : (board : BoardState) (events : List Event) (tracer : Tracer) → tracer.playback ≡ record { board = board; at = 0 } →
-    IsNoted board events 0 tracer.notes → IsKnown tracer.playback.board events tracer
-known board events tracer start noted = record {
-  played = begins events tracer.playback (ap (λ (p : Playback). p.at) start);
-  noted = subst (λ (n : ℕ). IsNoted tracer.playback.board events n tracer.notes) (sym (ap (λ (p : Playback). p.at) start))
-      (subst (λ (b : BoardState). IsNoted b events 0 tracer.notes) (sym (ap (λ (p : Playback). p.board) start)) noted);
-}
-
 pub write_json-requires-clause-knows : goal.write_json-requires-clause-knows
 write_json-requires-clause-knows g c =
     known c.args.start.board c.args.start.journal.events c.in_ok-tracer.tracer c.in_ok-tracer.ensures.start
@@ -138,10 +132,5 @@ write_json-requires-clause-knows g c =
 
 pub write_svg-requires-clause-knows : goal.write_svg-requires-clause-knows
 write_svg-requires-clause-knows g c =
-    known c.args.start.board c.args.start.journal.events c.in_ok-tracer.tracer c.in_ok-tracer.ensures.start
-    (c.in_ok-tracer.ensures.noted c.args.start.journal.events)
-
-pub write_html-requires-clause-knows : goal.write_html-requires-clause-knows
-write_html-requires-clause-knows g c =
     known c.args.start.board c.args.start.journal.events c.in_ok-tracer.tracer c.in_ok-tracer.ensures.start
     (c.in_ok-tracer.ensures.noted c.args.start.journal.events)
