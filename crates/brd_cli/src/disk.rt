@@ -240,7 +240,11 @@ fn can_be_new(rt: &HostRuntime, name: &str) -> io::Result<()> {
 
 /// Whether what is read under a name is a file that was found.
 fn is_file_of(rt: &HostRuntime, found: &Metadata, name: &str) -> bool {
-    let name = if name.as_bytes() == INPUT { INPUT_FILE } else { name };
+    let name = if name.as_bytes() == INPUT {
+        INPUT_FILE
+    } else {
+        name
+    };
     match fs::metadata(rt, name) {
         Ok(other) => found.is_file() && other.dev() == found.dev() && other.ino() == found.ino(),
         Err(_) => false,
@@ -299,7 +303,12 @@ fn begin_beside(rt: &HostRuntime, name: &str) -> Option<(File, Beside)> {
 }
 
 /// A file that was created for a place, with the permissions that it is to have.
-fn with_permissions(rt: &HostRuntime, file: File, part: String, place: Place) -> Option<(File, Beside)> {
+fn with_permissions(
+    rt: &HostRuntime,
+    file: File,
+    part: String,
+    place: Place,
+) -> Option<(File, Beside)> {
     if let Some(permissions) = place.permissions {
         if file.set_permissions(permissions).is_err() {
             let _ = fs::remove_file(rt, part.as_str());
