@@ -11,7 +11,7 @@ use Rattle.brd_board.specs.Board.{BoardState, happens}
 use Rattle.brd_journal.specs.Playing.{board_at}
 use Rattle.brd_debug.specs.Marks.{is_marked}
 use Rattle.brd_debug.specs.Touching.{touches}
-use Rattle.brd_debug.specs.Stops.{IsBreak, is_done, IsTold, Differs, IsStop}
+use Rattle.brd_debug.specs.Stops.{IsBreak, is_by, is_done, IsTold, Differs, IsStop}
 use Rattle.brd_gdb.specs.declared.request.PointKind.{PointKind}
 use Rattle.brd_stub.specs.declared.points.Point.{Point}
 use Rattle.brd_stub.specs.declared.stepping.Stepped.{Stepped}
@@ -161,7 +161,7 @@ touched-hit points b event told after set is_done touches_some =
 
 abbrev Met : List Point → Stepped → BoardState → Event → Report → BoardState → Type 0
 Met points it b event told after =
-    IsTold (stops_for points it) event told after
+    IsTold (stops_for points it) event told (is_by it.stepper b event) after
     ⊎ (Differs (watches_of PointKind.WriteWatch [] points) b.memory after.memory
     ⊎ (is_done (touches (watches_of PointKind.ReadWatch [] points) (watches_of PointKind.AccessWatch [] points) b event)
     told ≡ true))

@@ -1,11 +1,15 @@
--- One more byte of a point, one more processor.
+-- One more byte of a point, one more processor, one more task.
 use Rattle.std.proofs.Common.{◌≡◌, ℕ, suc, ◌+◌, ◌-◌, ◌%◌, ◌^◌, ◌<◌, List, sym, ap, ◌∙◌, arith}
-use Rattle.std.specs.Prelude.{Bool, false, ◌||◌, Option}
+use Rattle.std.specs.Prelude.{Bool, true, false, ◌||◌, if◌then◌else◌, is_some, Option, Some}
 use Rattle.brd_mem.specs.Memory.{Memory, byte_at}
+use Rattle.brd_kernel.specs.declared.processor.Standing.{Standing}
+use Rattle.brd_tasks.specs.declared.task.TaskView.{TaskView}
+use Rattle.brd_board.specs.Board.{BoardState, standing_of, task_of}
 use Rattle.brd_debug.specs.declared.stops.Stops.{Stops}
 use Rattle.brd_debug.specs.Debugger.{DebuggerState}
 use Rattle.brd_debug.specs.Marks.{most_addresses, marked_within}
 use Rattle.brd_stub.specs.Points.{add_bytes}
+use Rattle.brd_stub.specs.Threads.{is_handling, handling_from, first_task_from}
 use Rattle.brd_stub.specs.Reasons.{differ, is_other}
 
 one-less : (n i : ℕ) → i < n → n - i ≡ suc (n - suc i)
@@ -52,3 +56,56 @@ pub next-bytes : (get : Stops → List ℕ) (d next : DebuggerState) (first : Li
 next-bytes get d next first address i n lt is so_far =
     ap (λ (m : List ℕ). add_bytes m address (i + 1) (n - (i + 1))) is
     ∙ sym (add-on (get d.stops) address i n lt) ∙ so_far
+
+-- a processor runs the handler that is looked for, or those from the next one on decide
+
+abbrev handled-or : BoardState → ℕ → ℕ → Bool → Option ℕ
+handled-or b line cpu test = if test then Some cpu else handling_from b line (9 - suc cpu) (cpu + 1)
+
+tested : (b : BoardState) (line cpu : ℕ) (found : Option Standing) (test : Bool) → found ≡ standing_of b cpu →
+    test ≡ is_handling line found → test ≡ is_handling line (standing_of b cpu)
+tested b line cpu found test is tests = tests ∙ ap (is_handling line) is
+
+from-here : (b : BoardState) (line cpu : ℕ) (test : Bool) → cpu < 9 → test ≡ is_handling line (standing_of b cpu) →
+    handled-or b line cpu test ≡ handling_from b line (9 - cpu) cpu
+from-here b line cpu test lt tests =
+    ap (handled-or b line cpu) tests ∙ sym (ap (λ (n : ℕ). handling_from b line n cpu) (one-less 9 cpu lt))
+
+pub handled-here : (b : BoardState) (line cpu : ℕ) (found : Option Standing) (test : Bool) (whole : Option ℕ) →
+    cpu < 9 → found ≡ standing_of b cpu → test ≡ is_handling line found → test ≡ true →
+    handling_from b line (9 - cpu) cpu ≡ whole → Some cpu ≡ whole
+handled-here b line cpu found test whole lt is tests so decides =
+    sym (ap (handled-or b line cpu) so) ∙ from-here b line cpu test lt (tested b line cpu found test is tests) ∙ decides
+
+pub handled-on : (b : BoardState) (line cpu : ℕ) (found : Option Standing) (test : Bool) (whole : Option ℕ) →
+    cpu < 9 → found ≡ standing_of b cpu → test ≡ is_handling line found → test ≡ false →
+    handling_from b line (9 - cpu) cpu ≡ whole → handling_from b line (9 - (cpu + 1)) (cpu + 1) ≡ whole
+handled-on b line cpu found test whole lt is tests so decides =
+    ap (λ (j : ℕ). handling_from b line (9 - j) (cpu + 1)) (sym (next cpu))
+    ∙ sym (ap (handled-or b line cpu) so)
+    ∙ from-here b line cpu test lt (tested b line cpu found test is tests)
+    ∙ decides
+
+-- there is a task of an ID, or those from the next one on decide
+
+abbrev task-or : BoardState → ℕ → Bool → Option ℕ
+task-or b id test = if test then Some id else first_task_from b (256 - suc id) (id + 1)
+
+task-from : (b : BoardState) (id : ℕ) (found : Option TaskView) (test : Bool) → id < 256 → found ≡ task_of b id →
+    test ≡ is_some found → task-or b id test ≡ first_task_from b (256 - id) id
+task-from b id found test lt is tests =
+    ap (task-or b id) (tests ∙ ap (λ (t : Option TaskView). is_some t) is)
+    ∙ sym (ap (λ (n : ℕ). first_task_from b n id) (one-less 256 id lt))
+
+pub task-here : (b : BoardState) (id : ℕ) (found : Option TaskView) (test : Bool) (whole : Option ℕ) → id < 256 →
+    found ≡ task_of b id → test ≡ is_some found → test ≡ true → first_task_from b (256 - id) id ≡ whole →
+    Some id ≡ whole
+task-here b id found test whole lt is tests so decides =
+    sym (ap (task-or b id) so) ∙ task-from b id found test lt is tests ∙ decides
+
+pub task-on : (b : BoardState) (id : ℕ) (found : Option TaskView) (test : Bool) (whole : Option ℕ) → id < 256 →
+    found ≡ task_of b id → test ≡ is_some found → test ≡ false → first_task_from b (256 - id) id ≡ whole →
+    first_task_from b (256 - (id + 1)) (id + 1) ≡ whole
+task-on b id found test whole lt is tests so decides =
+    ap (λ (j : ℕ). first_task_from b (256 - j) (id + 1)) (sym (next id))
+    ∙ sym (ap (task-or b id) so) ∙ task-from b id found test lt is tests ∙ decides

@@ -8,23 +8,23 @@ use Rattle.brd_debug.specs.Debugger.{DebuggerState}
 use Rattle.brd_stub.specs.declared.points.Point.{Point}
 use Rattle.brd_stub.specs.declared.halt.Told.{Told}
 use Rattle.brd_stub.specs.declared.session.Session.{Session}
-use Rattle.brd_stub.specs.Reasons.{executing}
+use Rattle.brd_stub.specs.declared.threads.Whose.{Whose}
+use Rattle.brd_stub.specs.Threads.{executing}
 use Rattle.brd_stub.specs.Halting.{end_text}
-use Rattle.brd_stub.specs.Selecting.{stepping_of}
 use Rattle.brd_stub.specs.Moving.{Ended}
-use Rattle.brd_stub.specs.Answers.{at_stop, Stops}
+use Rattle.brd_stub.specs.Answers.{at_stop, whose_of, Stops}
 
 -- a move of a session whose debugger was prepared for it
-pub move-ends : (Goes : List Point → ℕ → Told → DebuggerState → Ended → Type 0) (s mid next : Session)
-    (d : DebuggerState) (e : Ended) (points : List Point) (cpu : ℕ) → mid ≡ record s { debugger = d } →
-    points ≡ mid.points → cpu ≡ stepping_of mid.selection → Goes points cpu mid.told mid.debugger e →
+pub move-ends : (Goes : List Point → Whose → Told → DebuggerState → Ended → Type 0) (s mid next : Session)
+    (d : DebuggerState) (e : Ended) (points : List Point) (last : Whose) → mid ≡ record s { debugger = d } →
+    points ≡ mid.points → last ≡ whose_of mid → Goes points last mid.told mid.debugger e →
     next ≡ at_stop (record mid { debugger = e.debugger }) e →
-    Stops (Goes s.points (stepping_of s.selection) s.told d) s next
-move-ends Goes s mid next d e points cpu is same on goes becomes = (
+    Stops (Goes s.points (whose_of s) s.told d) s next
+move-ends Goes s mid next d e points last is same on goes becomes = (
   e,
-  subst (λ (x : Session). Goes x.points (stepping_of x.selection) x.told x.debugger e) is
-      (subst (λ (c : ℕ). Goes mid.points c mid.told mid.debugger e) on
-      (subst (λ (p : List Point). Goes p cpu mid.told mid.debugger e) same goes)),
+  subst (λ (x : Session). Goes x.points (whose_of x) x.told x.debugger e) is
+      (subst (λ (w : Whose). Goes mid.points w mid.told mid.debugger e) on
+      (subst (λ (p : List Point). Goes p last mid.told mid.debugger e) same goes)),
   becomes ∙ ap (λ (x : Session). at_stop (record x { debugger = e.debugger }) e) is,
 )
 

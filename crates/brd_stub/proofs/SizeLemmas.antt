@@ -7,7 +7,8 @@ use Rattle.brd_word.specs.declared.order.Order.TheVariants.{Big, Little}
 use Rattle.brd_exec.specs.State.{State}
 use Rattle.brd_mem.specs.Memory.{Memory}
 use Rattle.brd_gdb.specs.Hexes.{hexed}
-use Rattle.brd_stub.specs.Registers.{word_text, words_text, word_or_unavailable, registers_text}
+use Rattle.brd_board.specs.declared.view.Fault.{Fault}
+use Rattle.brd_stub.specs.Registers.{word_text, words_text, word_or_unavailable, cause_of, registers_text}
 use Rattle.brd_stub.specs.Reading.{bytes_text, IsMemoryText}
 
 hexed-size : (bytes : List ℕ) → length (hexed bytes) ≡ 2 * length bytes
@@ -32,10 +33,12 @@ more : (front back : List ℕ) (m n : ℕ) → length front ≡ m → length bac
 more front back m n first second = length-append front back ∙ omega (arith, first, second)
 
 -- all registers have 38 times as many
-pub registers-size : (order : Order) (s : State) → length s.registers ≡ 32 → length (registers_text order s) ≡ 304
-registers-size order s count =
-    more _ _ 296 8 (more _ _ 280 16 (more _ _ 272 8 (more _ _ 264 8 (more _ _ 256 8 (words-size order s.registers ∙ omega (arith, count)) (length-replicate {A = ℕ} 8 120))
-    (word-size order s.lo)) (word-size order s.hi)) (length-replicate {A = ℕ} 16 120)) (word-size order s.pc)
+pub registers-size : (order : Order) (s : State) (fault : Option Fault) → length s.registers ≡ 32 →
+    length (registers_text order s fault) ≡ 304
+registers-size order s fault count =
+    more _ _ 296 8 (more _ _ 288 8 (more _ _ 280 8 (more _ _ 272 8 (more _ _ 264 8 (more _ _ 256 8 (words-size order s.registers ∙ omega (arith, count)) (length-replicate {A = ℕ} 8 120))
+    (word-size order s.lo)) (word-size order s.hi)) (length-replicate {A = ℕ} 8 120)) (register-size order (cause_of fault)))
+    (word-size order s.pc)
 
 some-size : (bytes : List ℕ) → length bytes ≤ 8192 → length (bytes_text bytes) ≤ 16384
 some-size [] few = omega arith

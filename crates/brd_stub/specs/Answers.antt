@@ -2,14 +2,14 @@
 use Rattle.std.specs.Prelude.{◌≡◌, ℕ, ◌≤◌, nat_le, true, if◌then◌else◌, is_some, List, [], length}
 use Rattle.std.specs.Prelude.{Option, Some, None, codes}
 use Rattle.brd_board.specs.declared.event.Event.{Event}
-use Rattle.brd_board.specs.Board.{BoardState, registers_of}
-use Rattle.brd_debug.specs.declared.stops.Stepper.{Stepper}
+use Rattle.brd_board.specs.Board.{BoardState}
 use Rattle.brd_debug.specs.Debugger.{shown}
 use Rattle.brd_debug.specs.Stops.{no_stops}
 use Rattle.brd_gdb.specs.Receiving.{packet_size}
 use Rattle.brd_gdb.specs.declared.request.PointKind.{PointKind}
 use Rattle.brd_gdb.specs.declared.request.ThreadId.{ThreadId}
-use Rattle.brd_gdb.specs.declared.request.Monitor.TheVariants.{Goto}
+use Rattle.brd_gdb.specs.declared.request.ThreadKind.{ThreadKind}
+use Rattle.brd_gdb.specs.declared.request.Monitor.TheVariants.{Goto, Threads}
 use Rattle.brd_gdb.specs.declared.request.Request.{Request}
 use Rattle.brd_gdb.specs.declared.request.Request.TheVariants as request
 use Rattle.brd_stub.specs.declared.session.Session.{Session}
@@ -20,21 +20,25 @@ use Rattle.brd_stub.specs.Registers.{context_or_rest, registers_text, register_t
 use Rattle.brd_stub.specs.Reading.{IsMemoryText}
 use Rattle.brd_stub.specs.Points.{may_set, with_point, without_point}
 use Rattle.brd_stub.specs.Moving.{stepping, of_all, moved_to, Ended, GoesForward, GoesBack}
-use Rattle.brd_stub.specs.Stepping.{processor_of, stepped_by}
-use Rattle.brd_stub.specs.Selecting.{beginning, stepping_of, chosen_by, selected_by, asked_by}
+use Rattle.brd_stub.specs.declared.threads.Thread.{Thread}
+use Rattle.brd_stub.specs.declared.threads.Whose.{Whose}
+use Rattle.brd_stub.specs.Threads.{context_at, fault_at, first_task, kind_by, chosen_first, may_show, switched, thread_named}
+use Rattle.brd_stub.specs.Stepping.{stepper_back, stepped_by}
+use Rattle.brd_stub.specs.Selecting.{beginning, stepping_of, chosen_by, selected_by, asked_by, switched_by}
 use Rattle.brd_stub.specs.Halting.{halt_text, current_text, fitting, done_text, note_text}
 
--- What is replied to a request that reads a board: the registers of a processor, or memory. A write is refused.
-abbrev pub Reads : BoardState → ℕ → Request → List ℕ → Type 0
-Reads board thread request.ReadRegisters reply = reply ≡ registers_text board.memory.order (context_or_rest
-    (registers_of board thread))
+-- What is replied to a request that reads a board: the registers of a thread, or memory. A write is refused.
+abbrev pub Reads : BoardState → Thread → Request → List ℕ → Type 0
+Reads board thread request.ReadRegisters reply =
+    reply ≡ registers_text board.memory.order (context_or_rest (context_at board thread)) (fault_at board thread)
 Reads board thread (request.ReadRegister number) reply =
-    reply ≡ register_text board.memory.order (context_or_rest (registers_of board thread)) number
+    reply
+    ≡ register_text board.memory.order (context_or_rest (context_at board thread)) (fault_at board thread) number
 Reads board thread (request.ReadMemory address length) reply = IsMemoryText board.memory address length reply
 Reads board thread request.Write reply = reply ≡ codes "E01"
 Reads board thread other reply = Unit {0}
 
--- a session that a move has left as it has ended: the processor on which it has stopped is chosen
+-- a session that a move has left as it has ended: the thread in which it has stopped is chosen
 abbrev pub at_stop : Session → Ended → Session
 at_stop s e = record s {
   debugger = e.debugger;
@@ -53,9 +57,24 @@ gone_to s position = record s {
   told = told.Nothing;
 }
 
--- the processor of a thread, and of any that of the last stop
-abbrev pub thread_named : Session → ThreadId → Option ℕ
-thread_named s thread = processor_of (shown s.debugger) thread s.halt.thread
+-- a session of which other things are threads from now on, which they may be
+abbrev pub showing : Session → ThreadKind → Session
+showing s kind = record s {
+  kind = kind;
+  halt = record s.halt { thread = switched kind (shown s.debugger) s.halt.thread };
+  selection = switched_by kind (shown s.debugger) s.selection;
+}
+
+abbrev pub with_threads : Session → ThreadKind → Session
+with_threads s kind = if may_show kind (shown s.debugger) then showing s kind else s
+
+-- the thread that steps where none is named, among those that there are
+abbrev pub whose_of : Session → Whose
+whose_of s = record { kind = s.kind; thread = stepping_of s.selection }
+
+-- the thread of a name, and of any that of the last stop
+abbrev pub named_in : Session → ThreadId → Option Thread
+named_in s thread = thread_named s.kind (shown s.debugger) thread s.halt.thread
 
 abbrev pub point : PointKind → ℕ → ℕ → Point
 point kind address length = record { kind = kind; address = address; length = length }
@@ -63,25 +82,26 @@ point kind address length = record { kind = kind; address = address; length = le
 -- What becomes of a session by a request. What is read, and all else, changes nothing.
 abbrev pub Becomes : Session → Request → Session → Type 0
 Becomes s (request.Forward how) next =
-    Stops (GoesForward s.points (stepping_of s.selection) s.told
-    (stepping s.points (stepped_by (shown s.debugger) (stepping_of s.selection) how) s.debugger)) s next
+    Stops (GoesForward s.points (whose_of s) s.told
+    (stepping s.points (stepped_by s.kind (shown s.debugger) (stepping_of s.selection) how) s.debugger)) s next
 Becomes s request.BackwardContinue next =
-    Stops (GoesBack s.points (stepping_of s.selection) s.told (stepping s.points (of_all None) s.debugger)) s next
+    Stops (GoesBack s.points (whose_of s) s.told (stepping s.points (of_all None) s.debugger)) s next
 Becomes s request.BackwardStep next =
-    Stops (GoesBack s.points (stepping_of s.selection) s.told
-    (stepping s.points (of_all (Some (Stepper.Each (stepping_of s.selection)))) s.debugger)) s next
+    Stops (GoesBack s.points (whose_of s) s.told
+    (stepping s.points (of_all (Some (stepper_back (shown s.debugger) (stepping_of s.selection)))) s.debugger)) s next
 Becomes s (request.Monitor (Goto position)) next = next ≡ gone_to s position
+Becomes s (request.Monitor (Threads kind)) next = next ≡ with_threads s kind
 Becomes s (request.SetThread moves thread) next =
-    next ≡ record s { selection = selected_by moves (thread_named s thread) thread s.selection }
+    next ≡ record s { selection = selected_by moves (named_in s thread) thread s.selection }
 Becomes s (request.IsAlive thread) next =
-    next ≡ record s { selection = asked_by (shown s.debugger) thread s.selection }
+    next ≡ record s { selection = asked_by s.kind (shown s.debugger) thread s.selection }
 Becomes s (request.SetPoint kind address length) next =
     next ≡ record s { points = with_point s.points (point kind address length) }
 Becomes s (request.ClearPoint kind address length) next =
     next ≡ record s { points = without_point s.points (point kind address length) }
 Becomes s other next = next ≡ s
 
--- What is replied: to a move, and to `?`, why it has ended, and to `qC` on which processor; to what changes something
+-- What is replied: to a move, and to `?`, why it has ended, and to `qC` in which thread; to what changes something
 -- else, whether that was done.
 abbrev pub Says : Session → Request → Session → List ℕ → Type 0
 Says s (request.Forward how) next reply = reply ≡ fitting (halt_text next.halt)
@@ -89,8 +109,8 @@ Says s request.BackwardContinue next reply = reply ≡ fitting (halt_text next.h
 Says s request.BackwardStep next reply = reply ≡ fitting (halt_text next.halt)
 Says s request.StopReason next reply = reply ≡ fitting (halt_text s.halt)
 Says s request.CurrentThread next reply = reply ≡ fitting (current_text s.halt.thread)
-Says s (request.SetThread moves thread) next reply = reply ≡ done_text (is_some (thread_named s thread))
-Says s (request.IsAlive thread) next reply = reply ≡ done_text (is_some (processor_of (shown s.debugger) thread 1))
+Says s (request.SetThread moves thread) next reply = reply ≡ done_text (is_some (named_in s thread))
+Says s (request.IsAlive thread) next reply = reply ≡ done_text (is_some (named_in s thread))
 Says s (request.SetPoint kind address length) next reply =
     reply ≡ done_text (may_set s.points (point kind address length))
 Says s (request.ClearPoint kind address length) next reply = reply ≡ done_text true
@@ -114,10 +134,12 @@ pub record Answers (s : Session) (request : Request) (reply : List ℕ) (next : 
   pub says : Says s request next reply
   pub short : length reply ≤ packet_size
 
--- A session begins before the first event, with no point, and reads and steps processor 1.
+-- A session begins before the first event, with no point. Its threads are the tasks, if the board has some, and it reads
+-- and steps the one that executes.
 pub record Begins (boot : BoardState) (events : List Event) (s : Session) : Type 0 where
   pub debugger : s.debugger ≡ record { boot = boot; events = events; position = 0; stops = no_stops }
   pub points : s.points ≡ []
   pub told : s.told ≡ told.Nothing
-  pub halt : s.halt ≡ record { thread = 1; reason = Reason.Done }
-  pub selection : s.selection ≡ beginning
+  pub kind : s.kind ≡ kind_by (first_task boot)
+  pub halt : s.halt ≡ record { thread = chosen_first boot (first_task boot); reason = Reason.Done }
+  pub selection : s.selection ≡ beginning (chosen_first boot (first_task boot))

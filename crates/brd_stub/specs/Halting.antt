@@ -1,5 +1,5 @@
 -- How GDB is told why the board stands where it is (GDB manual, "Stop Reply Packets").
-use Rattle.std.specs.Prelude.{if◌then◌else◌, is_some, ℕ, Bool, true, false, List, [], ◌∷◌, ◌++◌, take, codes}
+use Rattle.std.specs.Prelude.{if◌then◌else◌, is_some, ℕ, ◌/◌, ◌%◌, nat_lt, Bool, true, false, List, [], ◌∷◌, ◌++◌, take, codes}
 use Rattle.brd_exec.specs.declared.outcome.ExceptionCode.{ExceptionCode}
 use Rattle.brd_board.specs.Board.{BoardState, registers_of}
 use Rattle.brd_text.specs.Hex.{hex_of}
@@ -8,7 +8,8 @@ use Rattle.brd_gdb.specs.Receiving.{packet_size}
 use Rattle.brd_gdb.specs.declared.request.PointKind.{PointKind}
 use Rattle.brd_stub.specs.declared.halt.Reason.{Reason}
 use Rattle.brd_stub.specs.declared.halt.Halt.{Halt}
-use Rattle.brd_stub.specs.Reasons.{executing}
+use Rattle.brd_stub.specs.declared.threads.Thread.{Thread}
+use Rattle.brd_stub.specs.Threads.{number_of, executing}
 
 -- The signal of an exception, by its number in GDB's protocol: of address errors SIGBUS, of bus errors SIGSEGV, of a
 -- reserved instruction SIGILL, of an overflow SIGFPE, of a breakpoint and a trap SIGTRAP (own choice).
@@ -27,6 +28,7 @@ abbrev pub signal_of : Reason → ℕ
 signal_of (Reason.Exception code) = signal_of_code code
 signal_of Reason.Done = 5
 signal_of (Reason.Break kind) = 5
+signal_of (Reason.WatchedBreak kind) = 5
 signal_of (Reason.Watch kind address) = 5
 signal_of Reason.Begin = 5
 signal_of Reason.End = 5
@@ -45,24 +47,29 @@ watch_name other = codes "watch:"
 abbrev pub reason_text : Reason → List ℕ
 reason_text Reason.Done = []
 reason_text (Reason.Break kind) = break_name kind
+reason_text (Reason.WatchedBreak kind) = break_name kind
 reason_text (Reason.Exception code) = []
 reason_text (Reason.Watch kind address) = watch_name kind ++ hex_of address ++ codes ";"
 reason_text Reason.Begin = codes "replaylog:begin;"
 reason_text Reason.End = codes "replaylog:end;"
 
--- the signal, the processor, and what the reason adds
+-- the signal, the thread, and what the reason adds
 abbrev pub signal_text : Reason → List ℕ
 signal_text reason = codes "T" ++ hexed (signal_of reason ∷ [])
 
-abbrev pub processor_text : ℕ → List ℕ
-processor_text cpu = codes "thread:" ++ hexed (cpu ∷ []) ++ codes ";"
+-- the number of a thread in two hexadecimal digits, or in four
+abbrev pub number_text : ℕ → List ℕ
+number_text number = if nat_lt number 256 then hexed (number ∷ []) else hexed (number / 256 ∷ number % 256 ∷ [])
+
+abbrev pub thread_text : Thread → List ℕ
+thread_text it = codes "thread:" ++ number_text (number_of it) ++ codes ";"
 
 abbrev pub halt_text : Halt → List ℕ
-halt_text it = signal_text it.reason ++ processor_text it.thread ++ reason_text it.reason
+halt_text it = signal_text it.reason ++ thread_text it.thread ++ reason_text it.reason
 
--- which processor that is (GDB manual, "General Query Packets", qC)
-abbrev pub current_text : ℕ → List ℕ
-current_text cpu = codes "QC" ++ hexed (cpu ∷ [])
+-- which thread that is (GDB manual, "General Query Packets", qC)
+abbrev pub current_text : Thread → List ℕ
+current_text it = codes "QC" ++ number_text (number_of it)
 
 -- the front of a reply that a packet has room for
 abbrev pub fitting : List ℕ → List ℕ
@@ -84,6 +91,7 @@ end_text b =
 abbrev pub note_text : Reason → BoardState → List ℕ
 note_text Reason.Done b = []
 note_text (Reason.Break kind) b = []
+note_text (Reason.WatchedBreak kind) b = codes "The watch was met by the instruction at this break.\n"
 note_text (Reason.Exception code) b = []
 note_text (Reason.Watch kind address) b = []
 note_text Reason.Begin b = []

@@ -10,7 +10,7 @@ use Rattle.brd_board.specs.Board.{BoardState, happens}
 use Rattle.brd_journal.specs.Playing.{board_at}
 use Rattle.brd_exec.specs.declared.accessed.Span.{Span}
 use Rattle.brd_debug.specs.Touching.{read_on, written_on}
-use Rattle.brd_debug.specs.Stops.{concerns, is_stepped, is_fault, is_done}
+use Rattle.brd_debug.specs.Stops.{concerns, is_by, is_stepped, is_fault, is_done}
 use Rattle.brd_gdb.specs.declared.request.PointKind.{PointKind}
 use Rattle.brd_stub.specs.declared.points.Point.{Point}
 use Rattle.brd_stub.specs.declared.stepping.Stepped.{Stepped}
@@ -54,19 +54,19 @@ HitsAs PointKind.AccessWatch p b event told after =
     (is_done true told ≡ true)
     × ((address : ℕ) × IsByteOf p address × (IsRead b event address ⊎ IsWritten b event address))
 
--- A move that steps a processor so, or none, stops at an event: it hits a point, raises an exception, or is a stop of
+-- A move that steps somebody so, or nobody, stops at an event: it hits a point, raises an exception, or is a stop of
 -- who is stepped.
 abbrev pub EndsAs : List Point → Stepped → BoardState → Event → Report → BoardState → Type 0
 EndsAs points it b event told after =
     Any (λ p. HitsAs p.kind p b event told after) points
-    ⊎ ((is_stepped it.stepper event told after ≡ true) ⊎ (is_fault true told ≡ true))
+    ⊎ ((is_stepped it.stepper event told (is_by it.stepper b event) after ≡ true) ⊎ (is_fault true told ≡ true))
 
 -- Such a move stops at a position of a journal: at its event, which is one of those that count.
 pub record IsPlace (points : List Point) (it : Stepped) (boot : BoardState) (events : List Event)
     (position : ℕ) : Type 0 where
   pub event : Event
   pub there : slice_get events position ≡ Some event
-  pub concerned : concerns it.only event ≡ true
+  pub concerned : concerns it.only event (is_by it.stepper (board_at boot events position) event) ≡ true
   pub ends : EndsAs points it (board_at boot events position) event
       (happens (board_at boot events position) event).report
       (happens (board_at boot events position) event).board

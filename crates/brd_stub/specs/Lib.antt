@@ -1,4 +1,5 @@
 pub mod Registers
+pub mod Threads
 pub mod Reading
 pub mod Points
 pub mod Hits

@@ -1,36 +1,31 @@
 -- Why a board stands where it is, and whose thread that is.
 use Rattle.std.specs.Prelude.{ℕ, zero, suc, ◌+◌, ◌-◌, ◌%◌, ◌^◌, ◌==◌, nat_lt, Bool, true, false, not, ◌&&◌, ◌||◌}
-use Rattle.std.specs.Prelude.{if◌then◌else◌, is_some, List, [], ◌∷◌, Option, None, Some}
+use Rattle.std.specs.Prelude.{if◌then◌else◌, List, [], ◌∷◌, Option, None, Some}
 use Rattle.brd_board.specs.declared.view.Fault.{Fault}
 use Rattle.brd_mem.specs.Memory.{Memory, byte_at}
 use Rattle.brd_board.specs.declared.event.Event.{Event}
 use Rattle.brd_board.specs.declared.event.Event.TheVariants.{Step, Tick, Raise}
 use Rattle.brd_board.specs.declared.event.Report.{Report}
 use Rattle.brd_board.specs.declared.event.Report.TheVariants as report
-use Rattle.brd_board.specs.Board.{BoardState, registers_of, fault_of}
+use Rattle.brd_board.specs.Board.{BoardState, fault_of}
 use Rattle.brd_exec.specs.declared.accessed.Span.{Span}
 use Rattle.brd_debug.specs.declared.look.Look.{Look}
 use Rattle.brd_debug.specs.Touching.{read_on, written_on}
 use Rattle.brd_gdb.specs.declared.request.PointKind.{PointKind}
 use Rattle.brd_stub.specs.declared.points.Point.{Point}
+use Rattle.brd_stub.specs.declared.threads.Thread.{Thread}
+use Rattle.brd_stub.specs.declared.threads.Whose.{Whose}
 use Rattle.brd_stub.specs.declared.halt.Reason.{Reason}
 use Rattle.brd_stub.specs.declared.halt.Told.{Told}
 use Rattle.brd_stub.specs.declared.halt.Told.TheVariants as told
 use Rattle.brd_stub.specs.Points.{is_break, is_kind}
+use Rattle.brd_stub.specs.Threads.{thread_on}
 
--- the processor whose step an event is; of another event another one
-abbrev pub thread_of : Event → ℕ → ℕ
-thread_of (Step cpu) other = cpu
-thread_of Tick other = other
-thread_of (Raise line) other = other
-
--- A processor that executes somebody: this one, else the first of them all, else this one.
-abbrev pub first_executing : BoardState → ℕ → ℕ → ℕ → ℕ
-first_executing b zero cpu other = other
-first_executing b (suc n) cpu other = if is_some (registers_of b cpu) then cpu else first_executing b n (cpu + 1) other
-
-abbrev pub executing : BoardState → ℕ → ℕ
-executing b cpu = if is_some (registers_of b cpu) then cpu else first_executing b 8 1 cpu
+-- the thread whose step an event is that comes to a board; of another event the one that was chosen
+abbrev pub thread_of : Whose → BoardState → Event → Thread
+thread_of last b (Step cpu) = thread_on last.kind b cpu last.thread
+thread_of last b Tick = last.thread
+thread_of last b (Raise line) = last.thread
 
 -- the kind of the first point that is a break at an address
 abbrev pub kind_at : List Point → ℕ → Option PointKind

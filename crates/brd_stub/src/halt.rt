@@ -9,7 +9,7 @@ ghost use Rattle.brd_stub.specs.Halting.{
   watch_name,
   reason_text,
   signal_text,
-  processor_text,
+  thread_text,
   halt_text,
 };
 ghost use Rattle.brd_stub.specs.Moving.{shows, stops, passes, is_told_behind};
@@ -29,6 +29,7 @@ ghost use Rattle.brd_stub.specs.Reasons.{
 };
 
 use crate::points::{Point, changed, kind_at, touched};
+use crate::threads::{Thread, Whose, show_thread, thread_on};
 use brd_base::NoMemory;
 use brd_board::{Board, Event, Report};
 use brd_debug::{Look, read_on, written_on};
@@ -43,6 +44,8 @@ pub enum Reason {
     Done,
     /// The next instruction is at a break of this kind.
     Break(PointKind),
+    /// The same, and it is the instruction of a watch that was told before.
+    WatchedBreak(PointKind),
     /// The next instruction raises an exception.
     Exception(ExceptionCode),
     /// A watched byte changes, or is read or written, as the point's kind says: forward by the next event, backward by
@@ -69,11 +72,11 @@ pub enum Told {
     WatchBehind,
 }
 
-/// Why, and on which processor.
+/// Why, and in which thread.
 #[derive(Clone, Copy, PartialEq, Eq)]
 pub struct Halt {
-    /// The processor.
-    pub thread: u8,
+    /// The thread.
+    pub thread: Thread,
     /// Why.
     pub reason: Reason,
 }
@@ -81,7 +84,7 @@ pub struct Halt {
 /// How a move has ended.
 #[derive(Clone, Copy, PartialEq, Eq)]
 pub struct Stop {
-    /// Why, and on which processor.
+    /// Why, and in which thread.
     pub halt: Halt,
     /// What was told.
     pub told: Told,
@@ -163,13 +166,13 @@ pub fn told_ahead(told: Told, look: &Look) -> Told
     Told::Watch
 }
 
-/// The processor whose step an event is; of another event a processor that is given.
-pub fn thread_of(event: Event, other: u8) -> u8
-    ensures { result ≡ thread_of event other }
+/// The thread whose step an event is that comes to a board; of another event the one that was chosen.
+pub fn thread_of(last: Whose, board: &Board, event: Event) -> Thread
+    ensures { result ≡ thread_of last board.now event }
 {
     match event {
-        Event::Step(cpu) => cpu,
-        Event::Tick | Event::Raise(_) => other,
+        Event::Step(cpu) => thread_on(last.kind, board, cpu, last.thread),
+        Event::Tick | Event::Raise(_) => last.thread,
     }
 }
 
@@ -240,7 +243,7 @@ pub fn show_halt(out: &mut Vec<u8>, halt: Halt) -> Result<(), NoMemory>
     ensures { OnOk result (out.new.items ≡ out.old.items ++ halt_text halt) }
 {
     show_signal(out, halt.reason)?;
-    show_processor(out, halt.thread)?;
+    show_halted(out, halt.thread)?;
     show_reason(out, halt.reason)
 }
 
@@ -252,12 +255,12 @@ fn show_signal(out: &mut Vec<u8>, reason: Reason) -> Result<(), NoMemory>
     put_hex(out, &[signal_of(reason)])
 }
 
-/// Puts a processor at the end.
-fn show_processor(out: &mut Vec<u8>, cpu: u8) -> Result<(), NoMemory>
-    ensures { OnOk result (out.new.items ≡ out.old.items ++ processor_text cpu) }
+/// Puts a thread at the end.
+fn show_halted(out: &mut Vec<u8>, thread: Thread) -> Result<(), NoMemory>
+    ensures { OnOk result (out.new.items ≡ out.old.items ++ thread_text thread) }
 {
     out.extend_from_slice(b"thread:")?;
-    put_hex(out, &[cpu])?;
+    show_thread(out, thread)?;
     out.extend_from_slice(b";")?;
     Ok(())
 }
@@ -269,6 +272,7 @@ fn show_reason(out: &mut Vec<u8>, reason: Reason) -> Result<(), NoMemory>
     let text: &[u8] = match reason {
         Reason::Done | Reason::Exception(_) => b"",
         Reason::Break(kind) => break_name(kind),
+        Reason::WatchedBreak(kind) => break_name(kind),
         Reason::Begin => b"replaylog:begin;",
         Reason::End => b"replaylog:end;",
         Reason::Watch(kind, address) => return show_watch(out, kind, address),
@@ -317,7 +321,12 @@ fn signal_of(reason: Reason) -> u8
 {
     match reason {
         Reason::Exception(code) => signal_of_code(code),
-        Reason::Done | Reason::Break(_) | Reason::Watch(_, _) | Reason::Begin | Reason::End => 5,
+        Reason::Done
+        | Reason::Break(_)
+        | Reason::WatchedBreak(_)
+        | Reason::Watch(_, _)
+        | Reason::Begin
+        | Reason::End => 5,
     }
 }
 

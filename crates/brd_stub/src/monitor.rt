@@ -6,15 +6,16 @@ ghost use Rattle.brd_gdb.specs.Receiving.{packet_size};
 use crate::answer::Answer;
 use crate::session::Session;
 use crate::telling::text;
-use crate::threads::{show_standing, show_task};
+use crate::threads::{show_due, show_reason, show_standing, show_task};
 use brd_base::NoMemory;
-use brd_board::{Board, Event, WaitKind, WaitReason};
+use brd_board::{Board, Event};
 use brd_gdb::Monitor;
 use std::alloc::Global;
 
 /// What `help` prints.
 const HELP: &[u8] =
-    b"goto N: goes to position N\nwhere: the position, and whose step comes\ntasks: the tasks and their states\n\
+    b"goto N: goes to position N\nreset, restart: goes to position 0\nwhere: the position, and whose step comes\n\
+    threads tasks, threads processors: what threads are\ntasks: the tasks and their states\n\
     objects: who waits for what\nconsole: what was written to the console\nhelp: these commands\n";
 
 impl Session {
@@ -139,32 +140,10 @@ fn show_wait(alloc: Global, out: &mut Vec<u8>, board: &Board, id: u16) -> Result
     let Some(reason) = task.waiting else {
         return Ok(());
     };
-    let line = match reason {
-        WaitReason::Sleep => format!(in alloc; "task {id} waits for a wake-up")?,
-        WaitReason::Delay => format!(in alloc; "task {id} waits for the end of a delay")?,
-        WaitReason::On(WaitKind::Semaphore, object) => {
-            format!(in alloc; "task {id} waits for semaphore {object}")?
-        }
-        WaitReason::On(WaitKind::Flag, object) => {
-            format!(in alloc; "task {id} waits for event flag {object}")?
-        }
-        WaitReason::On(WaitKind::Room, object) => {
-            format!(in alloc; "task {id} waits to send to data queue {object}")?
-        }
-        WaitReason::On(WaitKind::Datum, object) => {
-            format!(in alloc; "task {id} waits to receive from data queue {object}")?
-        }
-    };
+    let line = format!(in alloc; "task {id} ")?;
     out.extend_from_slice(line.as_bytes())?;
-    show_due(alloc, out, task.due)
-}
-
-/// Puts at the end when a wait ends, and the line's end.
-fn show_due(alloc: Global, out: &mut Vec<u8>, due: Option<u64>) -> Result<(), NoMemory> {
-    if let Some(tick) = due {
-        let text = format!(in alloc; ", until tick {tick}")?;
-        out.extend_from_slice(text.as_bytes())?;
-    }
+    show_reason(alloc, out, reason)?;
+    show_due(alloc, out, task.due)?;
     out.push(b'\n')?;
     Ok(())
 }

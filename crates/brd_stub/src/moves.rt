@@ -8,6 +8,8 @@ ghost use Rattle.brd_stub.specs.Moving.{
   step_done,
   stands_there,
   stands_before,
+  noted,
+  watched_too,
   stand,
   stands_behind,
   stand_behind,
@@ -27,9 +29,9 @@ use crate::halt::{
     told_ahead, watched,
 };
 use crate::points::Point;
-use crate::threads::executing;
+use crate::threads::{Whose, standing_thread, stepped_thread};
 use brd_base::NoMemory;
-use brd_debug::{Debugger, Look, stepped_on};
+use brd_debug::{Debugger, Look};
 use brd_progress::Progress;
 
 /// What a move begins with.
@@ -37,8 +39,8 @@ use brd_progress::Progress;
 pub struct Origin<'a> {
     /// The points that are set.
     pub points: &'a [Point],
-    /// The processor that steps where none is named.
-    pub thread: u8,
+    /// What threads are, and the one that steps where none is named.
+    pub last: Whose,
     /// What was told last.
     pub told: Told,
 }
@@ -50,7 +52,7 @@ pub fn forward<P: Progress>(
     progress: &mut P,
 ) -> Result<Stop, NoMemory>
     ensures { IfOk result (λ stop.
-        GoesForward origin.entry.points.now origin.entry.thread origin.entry.told debugger.old
+        GoesForward origin.entry.points.now origin.entry.last origin.entry.told debugger.old
         (record { debugger = debugger.new; stop = stop })) }
 {
     match stop_here(debugger, origin)? {
@@ -62,7 +64,7 @@ pub fn forward<P: Progress>(
 /// Stops at its position, where that is a stop of which something wasn't told yet; None where it isn't.
 fn stop_here(debugger: &mut Debugger, origin: Origin<'_>) -> Result<Option<Stop>, NoMemory>
     ensures some { IfOk result (λ found. IfSome found (λ stop.
-        StopsHere origin.entry.points.now origin.entry.thread origin.entry.told debugger.old
+        StopsHere origin.entry.points.now origin.entry.last origin.entry.told debugger.old
         (record { debugger = debugger.new; stop = stop }))) }
     ensures none { IfOk result (λ found. IfNone found
         (PassesOn origin.entry.told debugger.old × (debugger.new ≡ debugger.old))) }
@@ -84,7 +86,7 @@ fn search_ahead<P: Progress>(
     progress: &mut P,
 ) -> Result<Stop, NoMemory>
     ensures { IfOk result (λ stop.
-        GoesOn origin.entry.points.now origin.entry.thread debugger.old
+        GoesOn origin.entry.points.now origin.entry.last debugger.old
         (record { debugger = debugger.new; stop = stop })) }
 {
     match debugger.next_stop_telling(progress)? {
@@ -101,7 +103,7 @@ fn end<P: Progress>(
 ) -> Result<Stop, NoMemory>
     ensures { IfOk result (λ stop.
         record { debugger = debugger.new; stop = stop }
-        ≡ stands_there origin.entry.thread reason.End (moved_to debugger.old (length debugger.old.events))) }
+        ≡ stands_there origin.entry.last reason.End (moved_to debugger.old (length debugger.old.events))) }
 {
     let len = debugger.len();
     show_at(debugger, len, progress)?;
@@ -111,7 +113,7 @@ fn end<P: Progress>(
 /// Stops at its position, to which it has come, so that nothing was told of it.
 fn stop_ahead(debugger: &mut Debugger, origin: Origin<'_>) -> Result<Stop, NoMemory>
     ensures { IfOk result (λ stop.
-        StandsAhead origin.entry.points.now origin.entry.thread debugger.old
+        StandsAhead origin.entry.points.now origin.entry.last debugger.old
         (record { debugger = debugger.new; stop = stop })) }
 {
     let untold = Origin {
@@ -124,56 +126,77 @@ fn stop_ahead(debugger: &mut Debugger, origin: Origin<'_>) -> Result<Stop, NoMem
     }
 }
 
-/// Stops before the event of its position, or after it where that is a stop of the processor that is stepped alone.
+/// Stops before the event of its position, or after it where that is nothing else than a stop of who is stepped.
 fn stand(debugger: &mut Debugger, origin: Origin<'_>, look: &Look) -> Result<Stop, NoMemory>
     ensures { IfOk result (λ stop.
         record { debugger = debugger.new; stop = stop }
-        ≡ stand origin.entry.points.now origin.entry.thread origin.entry.told (Some look.now) debugger.old) }
+        ≡ stand origin.entry.points.now origin.entry.last origin.entry.told (Some look.now) debugger.old) }
 {
     if shows(origin.told, look) {
-        return Ok(stop_before(debugger, origin, look));
+        return Ok(stop_before(debugger, origin, look, false));
     }
     show_next(debugger)?;
     Ok(step_done(debugger, origin))
 }
 
-/// That what comes next is told, and why.
-fn stop_before(debugger: &Debugger, origin: Origin<'_>, look: &Look) -> Stop
+/// That what comes next is told, and why; and whether its watch was told before.
+fn stop_before(debugger: &Debugger, origin: Origin<'_>, look: &Look, touched: bool) -> Stop
     ensures { record { debugger = debugger.now; stop = result }
-        ≡ stands_before origin.entry.points.now origin.entry.thread origin.entry.told look.now debugger.now }
+        ≡ stands_before origin.entry.points.now origin.entry.last origin.entry.told touched look.now
+        debugger.now }
 {
     let told = told_ahead(origin.told, look);
     Stop {
         halt: Halt {
-            thread: thread_of(look.event, origin.thread),
-            reason: reason_for(told, origin.points, debugger.show(), look),
+            thread: thread_of(origin.last, debugger.show(), look.event),
+            reason: noted(
+                touched,
+                reason_for(told, origin.points, debugger.show(), look),
+            ),
         },
         told,
     }
 }
 
+/// A reason, where the watch of the instruction was told before or not.
+fn noted(touched: bool, reason: Reason) -> Reason
+    ensures { result ≡ noted touched reason }
+{
+    if touched { watched_too(reason) } else { reason }
+}
+
+/// The reason where the watch of the instruction was told before.
+fn watched_too(reason: Reason) -> Reason
+    ensures { result ≡ watched_too reason }
+{
+    match reason {
+        Reason::Break(kind) => Reason::WatchedBreak(kind),
+        other => other,
+    }
+}
+
 /// That a step is done.
 fn step_done(debugger: &Debugger, origin: Origin<'_>) -> Stop
-    ensures { record { debugger = debugger.now; stop = result } ≡ step_done origin.entry.thread debugger.now }
+    ensures { record { debugger = debugger.now; stop = result } ≡ step_done origin.entry.last debugger.now }
 {
     Stop {
         halt: Halt {
-            thread: stepped_on(debugger.stepper(), debugger.show(), origin.thread),
+            thread: stepped_thread(debugger.stepper(), debugger.show(), origin.last),
             reason: Reason::Done,
         },
         told: Told::Nothing,
     }
 }
 
-/// That it stands where it is for a reason, on the processor that is stepped, or on one that executes somebody.
+/// That it stands where it is for a reason, in the thread that is stepped, or in one that executes.
 fn stop_there(debugger: &Debugger, origin: Origin<'_>, reason: Reason) -> Stop
-    ensures { record { debugger = debugger.now; stop = result } ≡ stands_there origin.entry.thread reason debugger.now }
+    ensures { record { debugger = debugger.now; stop = result } ≡ stands_there origin.entry.last reason debugger.now }
 {
     let board = debugger.show();
-    let thread = stepped_on(debugger.stepper(), board, origin.thread);
+    let thread = stepped_thread(debugger.stepper(), board, origin.last);
     Stop {
         halt: Halt {
-            thread: executing(board, thread),
+            thread: standing_thread(origin.last.kind, board, thread),
             reason,
         },
         told: Told::Nothing,
@@ -187,7 +210,7 @@ pub fn backward<P: Progress>(
     progress: &mut P,
 ) -> Result<Stop, NoMemory>
     ensures { IfOk result (λ stop.
-        GoesBack origin.entry.points.now origin.entry.thread origin.entry.told debugger.old
+        GoesBack origin.entry.points.now origin.entry.last origin.entry.told debugger.old
         (record { debugger = debugger.new; stop = stop })) }
 {
     let from = debugger.position();
@@ -209,7 +232,7 @@ fn stop_or_back<P: Progress>(
     progress: &mut P,
 ) -> Result<Stop, NoMemory>
     ensures { IfOk result (λ stop.
-        StopsBehind origin.entry.points.now origin.entry.thread is_told debugger.old
+        StopsBehind origin.entry.points.now origin.entry.last is_told debugger.old
         (record { debugger = debugger.new; stop = stop })) }
 {
     match debugger.look()? {
@@ -230,7 +253,7 @@ fn search_behind<P: Progress>(
     progress: &mut P,
 ) -> Result<Stop, NoMemory>
     ensures { IfOk result (λ stop.
-        EndsBehind origin.entry.points.now origin.entry.thread debugger.old
+        EndsBehind origin.entry.points.now origin.entry.last debugger.old
         (record { debugger = debugger.new; stop = stop })) }
 {
     match debugger.last_stop_telling(progress)? {
@@ -242,7 +265,7 @@ fn search_behind<P: Progress>(
 /// Stops at its position, to which it has come from behind, and of which nothing was told.
 fn stop_behind(debugger: &mut Debugger, origin: Origin<'_>) -> Result<Stop, NoMemory>
     ensures { IfOk result (λ stop.
-        StandsBehind origin.entry.points.now origin.entry.thread debugger.old
+        StandsBehind origin.entry.points.now origin.entry.last debugger.old
         (record { debugger = debugger.new; stop = stop })) }
 {
     match debugger.look()? {
@@ -259,7 +282,7 @@ fn begin<P: Progress>(
 ) -> Result<Stop, NoMemory>
     ensures { IfOk result (λ stop.
         record { debugger = debugger.new; stop = stop }
-        ≡ stands_there origin.entry.thread reason.Begin (moved_to debugger.old 0)) }
+        ≡ stands_there origin.entry.last reason.Begin (moved_to debugger.old 0)) }
 {
     show_at(debugger, 0, progress)?;
     Ok(stop_there(debugger, origin, Reason::Begin))
@@ -274,7 +297,7 @@ fn stand_behind(
 ) -> Result<Stop, NoMemory>
     ensures { IfOk result (λ stop.
         record { debugger = debugger.new; stop = stop }
-        ≡ stand_behind origin.entry.points.now origin.entry.thread is_told (Some look.now) debugger.old) }
+        ≡ stand_behind origin.entry.points.now origin.entry.last is_told (Some look.now) debugger.old) }
 {
     if look.touches && !is_told {
         return stop_after(debugger, origin, look);
@@ -284,7 +307,7 @@ fn stand_behind(
             told: Told::Nothing,
             ..origin
         };
-        return Ok(stop_before(debugger, untold, look));
+        return Ok(stop_before(debugger, untold, look, look.touches));
     }
     Ok(step_done(debugger, origin))
 }
@@ -293,10 +316,10 @@ fn stand_behind(
 fn stop_after(debugger: &mut Debugger, origin: Origin<'_>, look: &Look) -> Result<Stop, NoMemory>
     ensures { IfOk result (λ stop.
         record { debugger = debugger.new; stop = stop }
-        ≡ stands_behind origin.entry.points.now origin.entry.thread look.now debugger.old) }
+        ≡ stands_behind origin.entry.points.now origin.entry.last look.now debugger.old) }
 {
     let halt = Halt {
-        thread: thread_of(look.event, origin.thread),
+        thread: thread_of(origin.last, debugger.show(), look.event),
         reason: watched(origin.points, debugger.show(), look),
     };
     show_next(debugger)?;

@@ -1,9 +1,12 @@
-//! The registers of a processor, as GDB reads them.
+//! The registers of a thread, as GDB reads them.
 
 ghost use Rattle.std.specs.Prelude.{◌≡◌, ◌≤◌, ◌+◌, ◌++◌, length, OnOk};
-ghost use Rattle.brd_board.specs.Board.{registers_of};
+ghost use Rattle.brd_stub.specs.Threads.{context_at};
 ghost use Rattle.brd_stub.specs.Registers.{
   context_or_rest,
+  delay_bit,
+  cause_of,
+  address_of,
   registers_text,
   register_of,
   register_text,
@@ -13,41 +16,53 @@ ghost use Rattle.brd_stub.specs.Registers.{
   word_or_unavailable,
 };
 
+use crate::threads::{Thread, context_at};
 use brd_base::NoMemory;
-use brd_board::Board;
+use brd_board::{Board, Fault};
 use brd_exec::Context;
 use brd_gdb::put_hex;
 use brd_word::{Order, bytes_of};
 
-/// The context in which a processor executes, else one in which all is 0.
-pub fn context_of(board: &Board, cpu: u8) -> Context
-    ensures { result ≡ context_or_rest (registers_of board.now cpu) }
+/// The context of a thread, else one in which all is 0.
+pub fn context_of(board: &Board, thread: Thread) -> Context
+    ensures { result ≡ context_or_rest (context_at board.now thread) }
 {
-    match board.registers(cpu) {
+    match context_at(board, thread) {
         Some(context) => context,
         None => Context::opening(0, 0, 0),
     }
 }
 
 /// Puts all registers of a context at the end, by their numbers in the target description.
-pub fn show_registers(out: &mut Vec<u8>, order: Order, context: &Context) -> Result<(), NoMemory>
-    ensures is { OnOk result (out.new.items ≡ out.old.items ++ registers_text order context.now) }
+pub fn show_registers(
+    out: &mut Vec<u8>,
+    order: Order,
+    context: &Context,
+    fault: Option<Fault>,
+) -> Result<(), NoMemory>
+    ensures is { OnOk result (out.new.items ≡ out.old.items ++ registers_text order context.now fault) }
     ensures size { OnOk result (length out.new.items ≤ length out.old.items + 304) }
 {
     // For the proof alone: its contract says how many words they are.
     let _ = context.registers();
-    show_context(out, order, context)
+    show_context(out, order, context, fault)
 }
 
 /// Puts the registers of a context at the end.
-fn show_context(out: &mut Vec<u8>, order: Order, context: &Context) -> Result<(), NoMemory>
-    ensures { OnOk result (out.new.items ≡ out.old.items ++ registers_text order context.now) }
+fn show_context(
+    out: &mut Vec<u8>,
+    order: Order,
+    context: &Context,
+    fault: Option<Fault>,
+) -> Result<(), NoMemory>
+    ensures { OnOk result (out.new.items ≡ out.old.items ++ registers_text order context.now fault) }
 {
     show_words(out, order, context.registers())?;
     show_unavailable(out, 1)?;
     show_word(out, order, context.lo())?;
     show_word(out, order, context.hi())?;
-    show_unavailable(out, 2)?;
+    show_unavailable(out, 1)?;
+    show_word_or_none(out, order, cause_of(fault))?;
     show_word(out, order, context.pc())
 }
 
@@ -83,12 +98,13 @@ pub fn show_register(
     out: &mut Vec<u8>,
     order: Order,
     context: &Context,
+    fault: Option<Fault>,
     number: u32,
 ) -> Result<(), NoMemory>
-    ensures is { OnOk result (out.new.items ≡ out.old.items ++ register_text order context.now number) }
+    ensures is { OnOk result (out.new.items ≡ out.old.items ++ register_text order context.now fault number) }
     ensures size { OnOk result (length out.new.items ≤ length out.old.items + 8) }
 {
-    show_word_or_none(out, order, register(context, number))
+    show_word_or_none(out, order, register(context, fault, number))
 }
 
 /// Puts a register at the end, where it can be read.
@@ -102,14 +118,44 @@ fn show_word_or_none(out: &mut Vec<u8>, order: Order, word: Option<u32>) -> Resu
 }
 
 /// The word of the register of a number; None where it can't be read.
-fn register(context: &Context, number: u32) -> Option<u32>
-    ensures { result ≡ register_of context.now number }
+fn register(context: &Context, fault: Option<Fault>, number: u32) -> Option<u32>
+    ensures { result ≡ register_of context.now fault number }
 {
     match number {
         0..=31 => Some(context.word(number as u8)),
         33 => Some(context.lo()),
         34 => Some(context.hi()),
+        36 => cause_of(fault),
         37 => Some(context.pc()),
+        38..=71 => Some(0),
+        72 => address_of(fault),
         _ => None,
+    }
+}
+
+/// The cause of an exception, as coprocessor 0 has it.
+fn cause_of(fault: Option<Fault>) -> Option<u32>
+    ensures { result ≡ cause_of fault }
+{
+    match fault {
+        Some(fault) => Some(delay_bit(fault.bd) + 4 * fault.code.number() as u32),
+        None => None,
+    }
+}
+
+/// The bit of a cause that says that the instruction was in a delay slot.
+fn delay_bit(is_set: bool) -> u32
+    ensures { result ≡ delay_bit is_set }
+{
+    if is_set { 0x8000_0000 } else { 0 }
+}
+
+/// The address of an exception.
+fn address_of(fault: Option<Fault>) -> Option<u32>
+    ensures { result ≡ address_of fault }
+{
+    match fault {
+        Some(fault) => Some(fault.epc),
+        None => None,
     }
 }

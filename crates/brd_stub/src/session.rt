@@ -14,26 +14,29 @@ ghost use Rattle.brd_stub.specs.Answers.{
   Stops,
   at_stop,
   gone_to,
-  thread_named,
+  named_in,
+  whose_of,
+  with_threads,
 };
 ghost use Rattle.brd_stub.specs.Halting.{halt_text, current_text, fitting, done_text, end_text, note_text};
 ghost use Rattle.brd_stub.specs.Moving.{stepping, of_all, GoesForward, GoesBack};
 ghost use Rattle.brd_stub.specs.Points.{may_set, with_point, without_point};
 ghost use Rattle.brd_stub.specs.Selecting.{stepping_of, selected_by, asked_by};
-ghost use Rattle.brd_stub.specs.Stepping.{processor_of, processor_for, stepper_on, stepped_by};
+ghost use Rattle.brd_stub.specs.Stepping.{stepper_on, stepper_back, stepped_by};
+ghost use Rattle.brd_stub.specs.Threads.{thread_for};
 
 use crate::answer::Answer;
 use crate::halt::{Halt, Reason, Stop, Told};
 use crate::moves::{Origin, backward, forward};
 use crate::points::{Point, Points, load};
 use crate::selection::Selection;
-use crate::stepping::{Stepped, stepper_on};
+use crate::stepping::{Stepped, stepped_alone, stepper_back, stepper_on};
 use crate::telling::{current_text, halt_text, plain, short, text};
-use crate::threads::{executing, processor_of};
+use crate::threads::{Thread, Whose, executing, first_of, may_show, switched, thread_named};
 use brd_base::NoMemory;
 use brd_board::Board;
-use brd_debug::{DebugFault, Debugger, Stepper};
-use brd_gdb::{Monitor, Move, Request, ThreadId};
+use brd_debug::{DebugFault, Debugger, Only, Stepper};
+use brd_gdb::{Monitor, Move, Request, ThreadId, ThreadKind};
 use brd_journal::Journal;
 use brd_progress::Progress;
 use std::alloc::Global;
@@ -48,6 +51,8 @@ pub struct Session {
     pub told: Told,
     /// Why the board stands where it is.
     pub halt: Halt,
+    /// What threads are.
+    pub kind: ThreadKind,
     /// Which threads requests are of.
     pub selection: Selection,
 }
@@ -60,6 +65,7 @@ impl Drop for Session {
             points: _,
             told: _,
             halt: _,
+            kind: _,
             selection: _,
         } = self;
     }
@@ -71,15 +77,17 @@ impl Session {
         requires orders { boot.memory.order ≡ journal.order }
         ensures { IfOk result (Begins boot journal.events) }
     {
+        let first = first_of(&boot);
         Ok(Session {
             debugger: Debugger::new(alloc, boot, journal)?,
             points: Points::new(alloc),
             told: Told::Nothing,
             halt: Halt {
-                thread: 1,
+                thread: first.thread,
                 reason: Reason::Done,
             },
-            selection: Selection::new(),
+            kind: first.kind,
+            selection: Selection::new(first.thread),
         })
     }
 
@@ -117,10 +125,11 @@ impl Session {
             }
             Request::BackwardContinue => self.go_back(alloc, None, progress),
             Request::BackwardStep => {
-                let stepper = Stepper::Each(self.selection.stepping());
+                let stepper = stepper_back(self.debugger.show(), self.selection.stepping());
                 self.go_back(alloc, Some(stepper), progress)
             }
             Request::Monitor(Monitor::Goto(position)) => self.go_to(alloc, position, progress),
+            Request::Monitor(Monitor::Threads(kind)) => self.show_threads(alloc, kind),
             Request::SetThread { moves, thread } => self.set_thread(alloc, moves, thread),
             Request::SetPoint {
                 kind,
@@ -157,29 +166,26 @@ impl Session {
         }
     }
 
-    /// The processor that a move steps, if it steps one, and whether it moves alone.
+    /// Whom a move steps, if it steps somebody, and whether he moves alone.
     fn stepped_by(&self, how: Move) -> Stepped
-        ensures { result ≡ stepped_by (shown self.now.debugger) (stepping_of self.now.selection) how }
+        ensures { result ≡ stepped_by self.now.kind (shown self.now.debugger) (stepping_of self.now.selection) how }
     {
         match how {
             Move::Continue => Stepped {
                 stepper: None,
-                only: None,
+                only: Only::All,
             },
             Move::Step(thread) => Stepped {
                 stepper: Some(self.stepper(thread, 0, 0)),
-                only: None,
+                only: Only::All,
             },
             Move::Range { thread, start, end } => Stepped {
                 stepper: Some(self.stepper(thread, start, end)),
-                only: None,
+                only: Only::All,
             },
             Move::Alone(number) => {
-                let cpu = self.processor(ThreadId::One(number));
-                Stepped {
-                    stepper: Some(Stepper::Each(cpu)),
-                    only: Some(cpu),
-                }
+                let thread = self.thread(ThreadId::One(number));
+                stepped_alone(thread)
             }
         }
     }
@@ -187,17 +193,76 @@ impl Session {
     /// How a thread is stepped within a range.
     fn stepper(&self, thread: ThreadId, start: u32, end: u32) -> Stepper
         ensures { result ≡ stepper_on (shown self.now.debugger)
-            (processor_for (shown self.now.debugger) thread (stepping_of self.now.selection)) start end }
+            (thread_for self.now.kind (shown self.now.debugger) thread (stepping_of self.now.selection)) start end }
     {
-        stepper_on(self.debugger.show(), self.processor(thread), start, end)
+        stepper_on(self.debugger.show(), self.thread(thread), start, end)
     }
 
-    /// The processor of a thread that steps.
-    fn processor(&self, thread: ThreadId) -> u8
-        ensures { result ≡ processor_for (shown self.now.debugger) thread (stepping_of self.now.selection) }
+    /// The thread of a name that steps.
+    fn thread(&self, thread: ThreadId) -> Thread
+        ensures { result
+            ≡ thread_for self.now.kind (shown self.now.debugger) thread (stepping_of self.now.selection) }
     {
         let other = self.selection.stepping();
-        processor_of(self.debugger.show(), thread, other).unwrap_or(other)
+        match thread_named(self.kind, self.debugger.show(), thread, other) {
+            Some(thread) => thread,
+            None => other,
+        }
+    }
+
+    /// What threads are, and the one that steps where none is named.
+    fn whose(&self) -> Whose
+        ensures { result ≡ whose_of self.now }
+    {
+        Whose {
+            kind: self.kind,
+            thread: self.selection.stepping(),
+        }
+    }
+
+    /// Lets other things be threads from now on, if they may be, and says so on GDB's console.
+    fn show_threads(&mut self, alloc: Global, kind: ThreadKind) -> Result<Answer, NoMemory>
+        ensures becomes { IfOk result (λ _. self.new ≡ with_threads self.old kind) }
+        ensures short { IfOk result (λ answer. length answer.reply.items ≤ packet_size) }
+    {
+        let may = self.switch_threads(kind);
+        let console: &[u8] = match kind {
+            ThreadKind::Processors => b"threads are the processors\n",
+            ThreadKind::Tasks => {
+                if may {
+                    b"threads are the tasks, and the handlers that run\n"
+                } else {
+                    b"there is no task\n"
+                }
+            }
+        };
+        Ok(Answer {
+            console: text(alloc, console)?,
+            reply: text(alloc, b"OK")?,
+        })
+    }
+
+    /// Lets other things be threads from now on, if they may be. Answers whether they may.
+    fn switch_threads(&mut self, kind: ThreadKind) -> bool
+        ensures { self.new ≡ with_threads self.old kind }
+    {
+        let board = self.debugger.show();
+        if !may_show(kind, board) {
+            return false;
+        }
+        let thread = switched(kind, board, self.halt.thread);
+        let selection = self.selection.switching(kind, board);
+        self.kind = kind;
+        self.halt.thread = thread;
+        self.selection = selection;
+        true
+    }
+
+    /// The thread of a name, and of any that of the last stop.
+    fn named(&self, thread: ThreadId) -> Option<Thread>
+        ensures { result ≡ named_in self.now thread }
+    {
+        thread_named(self.kind, self.debugger.show(), thread, self.halt.thread)
     }
 
     /// Selects the thread that is read, or that moves.
@@ -209,19 +274,19 @@ impl Session {
     ) -> Result<Answer, NoMemory>
         ensures becomes { IfOk result (λ _. self.new
             ≡ record self.old {
-              selection = selected_by moves (thread_named self.old thread) thread self.old.selection;
+              selection = selected_by moves (named_in self.old thread) thread self.old.selection;
             }) }
         ensures says { IfOk result (λ answer.
-            answer.reply.items ≡ done_text (is_some (thread_named self.old thread))) }
+            answer.reply.items ≡ done_text (is_some (named_in self.old thread))) }
         ensures short { IfOk result (λ answer. length answer.reply.items ≤ packet_size) }
     {
-        let Some(cpu) = processor_of(self.debugger.show(), thread, self.halt.thread) else {
+        let Some(found) = self.named(thread) else {
             return error(alloc);
         };
         self.selection = if moves {
-            self.selection.naming(thread, cpu)
+            self.selection.naming(thread, found)
         } else {
-            self.selection.choosing(cpu)
+            self.selection.choosing(found)
         };
         okay(alloc)
     }
@@ -253,14 +318,15 @@ impl Session {
     /// Answers whether there is a thread, which is chosen then.
     fn ask(&mut self, alloc: Global, thread: ThreadId) -> Result<Answer, NoMemory>
         ensures becomes { IfOk result (λ _. self.new
-            ≡ record self.old { selection = asked_by (shown self.old.debugger) thread self.old.selection }) }
+            ≡ record self.old { selection = asked_by self.old.kind (shown self.old.debugger) thread self.old.selection }) }
         ensures says { IfOk result (λ answer.
-            answer.reply.items ≡ done_text (is_some (processor_of (shown self.old.debugger) thread 1))) }
+            answer.reply.items ≡ done_text (is_some (named_in self.old thread))) }
         ensures short { IfOk result (λ answer. length answer.reply.items ≤ packet_size) }
     {
+        let found = self.named(thread);
         let board = self.debugger.show();
-        self.selection = self.selection.asking(board, thread);
-        match processor_of(self.debugger.show(), thread, 1) {
+        self.selection = self.selection.asking(self.kind, board, thread);
+        match found {
             Some(_) => okay(alloc),
             None => error(alloc),
         }
@@ -283,16 +349,17 @@ impl Session {
         progress: &mut P,
     ) -> Result<Answer, NoMemory>
         ensures becomes { IfOk result (λ _. Stops
-            (GoesForward self.old.points (stepping_of self.old.selection) self.old.told
+            (GoesForward self.old.points (whose_of self.old) self.old.told
             (stepping self.old.points stepped self.old.debugger)) self.old self.new) }
         ensures says { IfOk result (λ answer. answer.reply.items ≡ fitting (halt_text self.new.halt)) }
         ensures shows { IfOk result (λ answer. answer.console.items ≡ console_text self.new) }
         ensures short { IfOk result (λ answer. length answer.reply.items ≤ packet_size) }
     {
         self.prepare(stepped);
+        let last = self.whose();
         let origin = Origin {
             points: self.points.as_slice(),
-            thread: self.selection.stepping(),
+            last,
             told: self.told,
         };
         let stop = forward(&mut self.debugger, origin, progress)?;
@@ -307,7 +374,7 @@ impl Session {
         progress: &mut P,
     ) -> Result<Answer, NoMemory>
         ensures becomes { IfOk result (λ _. Stops
-            (GoesBack self.old.points (stepping_of self.old.selection) self.old.told
+            (GoesBack self.old.points (whose_of self.old) self.old.told
             (stepping self.old.points (of_all stepper) self.old.debugger)) self.old self.new) }
         ensures says { IfOk result (λ answer. answer.reply.items ≡ fitting (halt_text self.new.halt)) }
         ensures shows { IfOk result (λ answer. answer.console.items ≡ console_text self.new) }
@@ -315,11 +382,12 @@ impl Session {
     {
         self.prepare(Stepped {
             stepper,
-            only: None,
+            only: Only::All,
         });
+        let last = self.whose();
         let origin = Origin {
             points: self.points.as_slice(),
-            thread: self.selection.stepping(),
+            last,
             told: self.told,
         };
         let stop = backward(&mut self.debugger, origin, progress)?;
@@ -335,7 +403,7 @@ impl Session {
         Ok(plain(alloc, short(reply)))
     }
 
-    /// Tells on which processor it stands there.
+    /// Tells in which thread it stands there.
     fn tell_thread(&self, alloc: Global) -> Result<Answer, NoMemory>
         ensures says { IfOk result (λ answer.
             answer.reply.items ≡ fitting (current_text self.now.halt.thread)) }
@@ -394,6 +462,7 @@ fn note_text(board: &Board, reason: Reason) -> &'static [u8]
 {
     match reason {
         Reason::End => end_text(board),
+        Reason::WatchedBreak(_) => b"The watch was met by the instruction at this break.\n",
         Reason::Done
         | Reason::Break(_)
         | Reason::Exception(_)

@@ -1,23 +1,25 @@
 //! What is told without anything being changed.
 
 ghost use Rattle.std.specs.Prelude.{◌≡◌, ◌≤◌, length, IfOk};
-ghost use Rattle.brd_board.specs.Board.{registers_of};
 ghost use Rattle.brd_debug.specs.Debugger.{shown};
 ghost use Rattle.brd_gdb.specs.Receiving.{packet_size};
 ghost use Rattle.brd_stub.specs.Answers.{Reads};
 ghost use Rattle.brd_stub.specs.Halting.{halt_text, current_text, fitting};
 ghost use Rattle.brd_stub.specs.Reading.{IsMemoryText};
 ghost use Rattle.brd_stub.specs.Registers.{context_or_rest, registers_text, register_text};
+ghost use Rattle.brd_stub.specs.Threads.{context_at, fault_at};
 
 use crate::answer::Answer;
 use crate::halt::{Halt, show_halt};
 use crate::memory::show_memory;
 use crate::registers::{context_of, show_register, show_registers};
 use crate::session::Session;
-use crate::threads::{processor_of, show_thread, thread_document, thread_list, thread_text};
+use crate::threads::{
+    Thread, fault_at, show_thread, thread_document, thread_list, thread_named, thread_text,
+};
 use brd_base::NoMemory;
 use brd_board::Board;
-use brd_gdb::{PACKET_SIZE, Request, ThreadId, features, put_hex, put_slice};
+use brd_gdb::{PACKET_SIZE, Request, ThreadId, ThreadKind, features, put_hex, put_slice};
 use std::alloc::Global;
 
 /// What a session can do, by the names of GDB's protocol.
@@ -52,15 +54,29 @@ impl Session {
             Request::Supported => text(alloc, SUPPORTED),
             Request::StartNoAckMode | Request::Detach | Request::Kill | Request::KillProcess =>
                 text(alloc, b"OK"),
-            Request::FirstThreads => thread_list(alloc, board),
+            Request::FirstThreads => thread_list(alloc, self.kind, board),
             Request::OtherThreads => text(alloc, b"l"),
-            Request::ThreadInfo(thread) => info(alloc, board, thread, self.selection.reading),
+            Request::ThreadInfo(thread) => self.info(alloc, thread),
             Request::ReadFeatures { offset, length } => part(alloc, features(), offset, length),
-            Request::ReadThreads { offset, length } => threads(alloc, board, offset, length),
-            Request::MoveKinds => text(alloc, b"vCont;c;C;s;S;t;r"),
+            Request::ReadThreads { offset, length } => {
+                threads(alloc, self.kind, board, offset, length)
+            }
+            Request::MoveKinds => text(alloc, b"vCont;c;C;s;S;r"),
             Request::IsAttached => text(alloc, b"0"),
             _ => text(alloc, b""),
         }
+    }
+
+    /// What there is to say of a thread.
+    fn info(&self, alloc: Global, thread: ThreadId) -> Result<Vec<u8>, NoMemory> {
+        let board = self.debugger.show();
+        let Some(thread) = thread_named(self.kind, board, thread, self.selection.reading) else {
+            return text(alloc, b"E01");
+        };
+        let bytes = thread_text(alloc, board, thread)?;
+        let mut reply = Vec::new(alloc);
+        put_hex(&mut reply, &bytes)?;
+        Ok(reply)
     }
 }
 
@@ -93,26 +109,35 @@ pub fn plain(alloc: Global, reply: Vec<u8>) -> Answer
     }
 }
 
-/// All registers of a processor.
-fn registers(alloc: Global, board: &Board, cpu: u8) -> Result<Vec<u8>, NoMemory>
+/// All registers of a thread.
+fn registers(alloc: Global, board: &Board, thread: Thread) -> Result<Vec<u8>, NoMemory>
     ensures is { IfOk result
-        (λ reply. reply.items ≡ registers_text board.now.memory.order (context_or_rest (registers_of board.now cpu))) }
+        (λ reply. reply.items ≡ registers_text board.now.memory.order (context_or_rest (context_at board.now thread))
+        (fault_at board.now thread)) }
     ensures short { IfOk result (λ reply. length reply.items ≤ packet_size) }
 {
     let mut reply = Vec::new(alloc);
-    show_registers(&mut reply, board.order(), &context_of(board, cpu))?;
+    let fault = fault_at(board, thread);
+    show_registers(&mut reply, board.order(), &context_of(board, thread), fault)?;
     Ok(reply)
 }
 
-/// One register of a processor.
-fn register(alloc: Global, board: &Board, cpu: u8, number: u32) -> Result<Vec<u8>, NoMemory>
+/// One register of a thread.
+fn register(alloc: Global, board: &Board, thread: Thread, number: u32) -> Result<Vec<u8>, NoMemory>
     ensures is { IfOk result
-        (λ reply. reply.items ≡ register_text board.now.memory.order (context_or_rest (registers_of board.now cpu))
-        number) }
+        (λ reply. reply.items ≡ register_text board.now.memory.order (context_or_rest (context_at board.now thread))
+        (fault_at board.now thread) number) }
     ensures short { IfOk result (λ reply. length reply.items ≤ packet_size) }
 {
     let mut reply = Vec::new(alloc);
-    show_register(&mut reply, board.order(), &context_of(board, cpu), number)?;
+    let fault = fault_at(board, thread);
+    show_register(
+        &mut reply,
+        board.order(),
+        &context_of(board, thread),
+        fault,
+        number,
+    )?;
     Ok(reply)
 }
 
@@ -134,7 +159,7 @@ pub fn halt_text(alloc: Global, halt: Halt) -> Result<Vec<u8>, NoMemory>
 }
 
 /// The thread of the last stop.
-pub fn current_text(alloc: Global, thread: u8) -> Result<Vec<u8>, NoMemory>
+pub fn current_text(alloc: Global, thread: Thread) -> Result<Vec<u8>, NoMemory>
     ensures { IfOk result (λ reply. reply.items ≡ current_text thread) }
 {
     let mut reply = Vec::new(alloc);
@@ -143,20 +168,15 @@ pub fn current_text(alloc: Global, thread: u8) -> Result<Vec<u8>, NoMemory>
     Ok(reply)
 }
 
-/// What there is to say of a thread.
-fn info(alloc: Global, board: &Board, thread: ThreadId, other: u8) -> Result<Vec<u8>, NoMemory> {
-    let Some(cpu) = processor_of(board, thread, other) else {
-        return text(alloc, b"E01");
-    };
-    let bytes = thread_text(alloc, board, cpu)?;
-    let mut reply = Vec::new(alloc);
-    put_hex(&mut reply, &bytes)?;
-    Ok(reply)
-}
-
 /// A part of the list of threads.
-fn threads(alloc: Global, board: &Board, offset: u32, length: u32) -> Result<Vec<u8>, NoMemory> {
-    let document = thread_document(alloc, board)?;
+fn threads(
+    alloc: Global,
+    kind: ThreadKind,
+    board: &Board,
+    offset: u32,
+    length: u32,
+) -> Result<Vec<u8>, NoMemory> {
+    let document = thread_document(alloc, kind, board)?;
     part(alloc, &document, offset, length)
 }
 

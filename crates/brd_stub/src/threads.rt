@@ -1,35 +1,211 @@
-//! Threads, which are the board's processors.
+//! Threads: the kernel's tasks and the handlers that run, or the board's processors.
 
-ghost use Rattle.std.specs.Prelude.{◌≡◌, [], ◌∷◌, ◌++◌, is_some, OnOk};
-ghost use Rattle.brd_board.specs.Board.{standing_of};
-ghost use Rattle.brd_gdb.specs.Hexes.{hexed};
-ghost use Rattle.brd_stub.specs.Stepping.{processor_of};
-ghost use Rattle.brd_stub.specs.Reasons.{executing};
+ghost use Rattle.std.specs.Prelude.{◌≡◌, ◌++◌, is_some, OnOk};
+ghost use Rattle.brd_exec.specs.State.{State};
+ghost use Rattle.brd_board.specs.Board.{registers_of};
+ghost use Rattle.brd_stub.specs.Halting.{number_text};
+ghost use Rattle.brd_stub.specs.Threads.{
+  number_of,
+  is_handling,
+  handling,
+  kept_in,
+  registers_on,
+  context_at,
+  cpu_of,
+  fault_at,
+  who_at,
+  thread_by,
+  thread_on,
+  first_task,
+  or_first,
+  resting,
+  executing,
+  executing_thread,
+  kind_by,
+  chosen_first,
+  standing_thread,
+  stepped_who,
+  stepped_thread,
+  switched,
+  may_show,
+  task_numbered,
+  handler_numbered,
+  processor_numbered,
+  thread_numbered,
+  thread_named,
+};
 
 use brd_base::NoMemory;
-use brd_board::{Board, Standing, TaskState};
-use brd_gdb::{ThreadId, put_hex};
+use brd_board::{Board, Fault, Standing, TaskId, TaskState, TaskView, WaitKind, WaitReason};
+use brd_debug::{Stepper, stepped_on};
+use brd_exec::Context;
+use brd_gdb::{ThreadId, ThreadKind, put_hex};
 use std::alloc::Global;
 
-/// Whether there is a processor of this number.
-pub fn is_thread(board: &Board, thread: u8) -> bool
-    ensures { result ≡ is_some (standing_of board.now thread) }
-{
-    board.standing(thread).is_some()
+/// After which number there is no thread: that of the handler of the last line.
+const MOST_NUMBERS: u32 = 288;
+
+/// A thread.
+#[derive(Clone, Copy, PartialEq, Eq)]
+pub enum Thread {
+    /// The task of this ID, whether it executes or not.
+    Task(TaskId),
+    /// The handler of this interrupt line, while it runs.
+    Handler(u8),
+    /// The processor of this number, and whom it executes.
+    Processor(u8),
 }
 
-/// The processor of a thread, where there is one; another one where any is meant.
-pub fn processor_of(board: &Board, thread: ThreadId, other: u8) -> Option<u8>
-    ensures { result ≡ processor_of board.now thread other }
+/// What threads are, and one of them: the one that steps where none is named.
+#[derive(Clone, Copy, PartialEq, Eq)]
+pub struct Whose {
+    /// What they are.
+    pub kind: ThreadKind,
+    /// The thread.
+    pub thread: Thread,
+}
+
+impl Thread {
+    /// The number by which GDB names it.
+    pub fn number(self) -> u16
+        ensures { result ≡ number_of self }
+    {
+        match self {
+            Thread::Task(id) => id,
+            Thread::Handler(line) => 256 + line as u16,
+            Thread::Processor(cpu) => cpu as u16,
+        }
+    }
+}
+
+/// Whether a processor that does this runs the handler of a line.
+fn is_handling(line: u8, standing: Option<Standing>) -> bool
+    ensures { result ≡ is_handling line standing }
+{
+    match standing {
+        Some(Standing::Handler(other)) => other == line,
+        _ => false,
+    }
+}
+
+/// The processor that runs the handler of a line, if one does.
+pub fn handling(board: &Board, line: u8) -> Option<u8>
+    ensures { result ≡ handling board.now line }
+{
+    for cpu in 1..9u8 {
+        if is_handling(line, board.standing(cpu)) {
+            return Some(cpu);
+        }
+    }
+    None
+}
+
+/// The context of a thread, where there is one: of a task its own, also while it doesn't execute.
+pub fn context_at(board: &Board, thread: Thread) -> Option<Context>
+    ensures { result ≡ context_at board.now thread }
 {
     match thread {
-        ThreadId::All | ThreadId::Any => Some(other),
-        ThreadId::One(number) => {
-            if number > 8 || !is_thread(board, number as u8) {
-                return None;
-            }
-            Some(number as u8)
+        Thread::Task(id) => kept_in(board.task(id)),
+        Thread::Handler(line) => registers_on(board, handling(board, line)),
+        Thread::Processor(cpu) => board.registers(cpu),
+    }
+}
+
+/// The context of a task.
+fn kept_in(task: Option<TaskView>) -> Option<Context>
+    ensures { result ≡ kept_in task }
+{
+    match task {
+        Some(task) => Some(task.context),
+        None => None,
+    }
+}
+
+/// The context in which a processor executes, if there is one.
+fn registers_on(board: &Board, cpu: Option<u8>) -> Option<Context>
+    ensures { result ≡ registers_on board.now cpu }
+{
+    match cpu {
+        Some(cpu) => board.registers(cpu),
+        None => None,
+    }
+}
+
+/// The processor of a thread: that to which a task is assigned, and that on which a handler runs.
+pub fn cpu_of(board: &Board, thread: Thread) -> u8
+    ensures { result ≡ cpu_of board.now thread }
+{
+    match thread {
+        Thread::Task(id) => match board.task(id) {
+            Some(task) => task.cpu,
+            None => 1,
+        },
+        Thread::Handler(line) => match handling(board, line) {
+            Some(cpu) => cpu,
+            None => 1,
+        },
+        Thread::Processor(cpu) => cpu,
+    }
+}
+
+/// The last exception on a thread's processor.
+pub fn fault_at(board: &Board, thread: Thread) -> Option<Fault>
+    ensures { result ≡ fault_at board.now thread }
+{
+    board.last_fault(cpu_of(board, thread))
+}
+
+/// Who a thread is: of a processor whom it executes.
+pub fn who_at(board: &Board, thread: Thread) -> Option<Standing>
+    ensures { result ≡ who_at board.now thread }
+{
+    match thread {
+        Thread::Task(id) => Some(Standing::Task(id)),
+        Thread::Handler(line) => Some(Standing::Handler(line)),
+        Thread::Processor(cpu) => board.standing(cpu),
+    }
+}
+
+/// The thread of somebody; of nobody another one.
+fn thread_by(who: Option<Standing>, other: Thread) -> Thread
+    ensures { result ≡ thread_by who other }
+{
+    match who {
+        Some(Standing::Task(id)) => Thread::Task(id),
+        Some(Standing::Handler(line)) => Thread::Handler(line),
+        Some(Standing::Idle) | Some(Standing::Stopped) | None => other,
+    }
+}
+
+/// The thread that executes on a processor; another one where none does.
+pub fn thread_on(kind: ThreadKind, board: &Board, cpu: u8, other: Thread) -> Thread
+    ensures { result ≡ thread_on kind board.now cpu other }
+{
+    match kind {
+        ThreadKind::Processors => Thread::Processor(cpu),
+        ThreadKind::Tasks => thread_by(board.standing(cpu), other),
+    }
+}
+
+/// The task of the lowest ID, if there is one.
+pub fn first_task(board: &Board) -> Option<TaskId>
+    ensures { result ≡ first_task board.now }
+{
+    for id in 1..256u16 {
+        if board.task(id).is_some() {
+            return Some(id);
         }
+    }
+    None
+}
+
+/// The thread that is shown where none executes.
+fn resting(board: &Board) -> Thread
+    ensures { result ≡ resting board.now }
+{
+    match first_task(board) {
+        Some(id) => Thread::Task(id),
+        None => Thread::Task(1),
     }
 }
 
@@ -48,35 +224,204 @@ pub fn executing(board: &Board, cpu: u8) -> u8
     cpu
 }
 
-/// Puts a thread's number at the end.
-pub fn show_thread(out: &mut Vec<u8>, thread: u8) -> Result<(), NoMemory>
-    ensures { OnOk result (out.new.items ≡ out.old.items ++ hexed (thread ∷ [])) }
+/// The thread of the first processor that executes somebody.
+fn executing_thread(board: &Board) -> Thread
+    ensures { result ≡ executing_thread board.now }
 {
-    put_hex(out, &[thread])
+    let other = resting(board);
+    thread_on(ThreadKind::Tasks, board, executing(board, 1), other)
+}
+
+/// Which threads a session begins with, and which of them is chosen.
+pub fn first_of(board: &Board) -> Whose
+    ensures kind { result.kind ≡ kind_by (first_task board.now) }
+    ensures thread { result.thread ≡ chosen_first board.now (first_task board.now) }
+{
+    match first_task(board) {
+        Some(_) => Whose {
+            kind: ThreadKind::Tasks,
+            thread: executing_thread(board),
+        },
+        None => Whose {
+            kind: ThreadKind::Processors,
+            thread: Thread::Processor(1),
+        },
+    }
+}
+
+/// The thread at which the journal has begun or ended: this one; but a handler that has ended gives way to who
+/// executes, and so does a processor that executes nobody.
+pub fn standing_thread(kind: ThreadKind, board: &Board, thread: Thread) -> Thread
+    ensures { result ≡ standing_thread kind board.now thread }
+{
+    match kind {
+        ThreadKind::Processors => Thread::Processor(executing(board, cpu_of(board, thread))),
+        ThreadKind::Tasks => match thread {
+            Thread::Task(id) => Thread::Task(id),
+            Thread::Handler(line) => {
+                if handling(board, line).is_some() {
+                    return Thread::Handler(line);
+                }
+                executing_thread(board)
+            }
+            Thread::Processor(_) => executing_thread(board),
+        },
+    }
+}
+
+/// The thread of whom a stepper names; of none the one that was chosen.
+fn stepped_who(stepper: Option<Stepper>, last: Thread) -> Thread
+    ensures { result ≡ stepped_who stepper last }
+{
+    match stepper {
+        None | Some(Stepper::Each(_)) => last,
+        Some(Stepper::Of(who)) => thread_by(Some(who), last),
+        Some(Stepper::Until { who, .. }) => thread_by(Some(who), last),
+    }
+}
+
+/// The thread that is stepped; where none is, the one that steps where none is named.
+pub fn stepped_thread(stepper: Option<Stepper>, board: &Board, last: Whose) -> Thread
+    ensures { result ≡ stepped_thread last.kind stepper board.now last.thread }
+{
+    match last.kind {
+        ThreadKind::Processors => {
+            Thread::Processor(stepped_on(stepper, board, cpu_of(board, last.thread)))
+        }
+        ThreadKind::Tasks => stepped_who(stepper, last.thread),
+    }
+}
+
+/// A thread, after others are threads.
+pub fn switched(kind: ThreadKind, board: &Board, thread: Thread) -> Thread
+    ensures { result ≡ switched kind board.now thread }
+{
+    match kind {
+        ThreadKind::Processors => Thread::Processor(cpu_of(board, thread)),
+        ThreadKind::Tasks => match thread {
+            Thread::Task(id) => Thread::Task(id),
+            Thread::Handler(line) => Thread::Handler(line),
+            Thread::Processor(cpu) => {
+                let other = resting(board);
+                thread_on(ThreadKind::Tasks, board, cpu, other)
+            }
+        },
+    }
+}
+
+/// Whether these may be threads: tasks only where there is one.
+pub fn may_show(kind: ThreadKind, board: &Board) -> bool
+    ensures { result ≡ may_show kind board.now }
+{
+    match kind {
+        ThreadKind::Processors => true,
+        ThreadKind::Tasks => first_task(board).is_some(),
+    }
+}
+
+/// The task of a number, where there is one.
+fn task_numbered(board: &Board, number: u16) -> Option<Thread>
+    ensures { result ≡ task_numbered board.now number }
+{
+    if board.task(number).is_some() {
+        return Some(Thread::Task(number));
+    }
+    None
+}
+
+/// The handler of a line, where it runs.
+fn handler_numbered(board: &Board, line: u32) -> Option<Thread>
+    ensures { result ≡ handler_numbered board.now line }
+{
+    if line < 32 && handling(board, line as u8).is_some() {
+        return Some(Thread::Handler(line as u8));
+    }
+    None
+}
+
+/// The processor of a number, where there is one.
+fn processor_numbered(board: &Board, number: u32) -> Option<Thread>
+    ensures { result ≡ processor_numbered board.now number }
+{
+    if number <= 8 && board.standing(number as u8).is_some() {
+        return Some(Thread::Processor(number as u8));
+    }
+    None
+}
+
+/// The thread of a number, where there is one.
+fn thread_numbered(kind: ThreadKind, board: &Board, number: u32) -> Option<Thread>
+    ensures { result ≡ thread_numbered kind board.now number }
+{
+    match kind {
+        ThreadKind::Processors => processor_numbered(board, number),
+        ThreadKind::Tasks => {
+            if number < 256 {
+                return task_numbered(board, number as u16);
+            }
+            handler_numbered(board, number - 256)
+        }
+    }
+}
+
+/// The thread of a name, where there is one; another one where any is meant.
+pub fn thread_named(
+    kind: ThreadKind,
+    board: &Board,
+    thread: ThreadId,
+    other: Thread,
+) -> Option<Thread>
+    ensures { result ≡ thread_named kind board.now thread other }
+{
+    match thread {
+        ThreadId::All | ThreadId::Any => Some(other),
+        ThreadId::One(number) => thread_numbered(kind, board, number),
+    }
+}
+
+/// Puts a thread's number at the end.
+pub fn show_thread(out: &mut Vec<u8>, thread: Thread) -> Result<(), NoMemory>
+    ensures { OnOk result (out.new.items ≡ out.old.items ++ number_text (number_of thread)) }
+{
+    show_digits(out, thread.number())
+}
+
+/// Puts a number at the end in two hexadecimal digits, or in four.
+fn show_digits(out: &mut Vec<u8>, number: u16) -> Result<(), NoMemory>
+    ensures { OnOk result (out.new.items ≡ out.old.items ++ number_text number) }
+{
+    if number < 256 {
+        return put_hex(out, &[number as u8]);
+    }
+    put_hex(out, &[(number / 256) as u8, (number % 256) as u8])
 }
 
 /// The numbers of all threads, with commas between them.
-pub fn thread_list(alloc: Global, board: &Board) -> Result<Vec<u8>, NoMemory> {
+pub fn thread_list(alloc: Global, kind: ThreadKind, board: &Board) -> Result<Vec<u8>, NoMemory> {
     let mut out = Vec::new(alloc);
-    out.push(b'm')?;
-    for cpu in 1..9u8 {
-        if is_thread(board, cpu) {
-            if cpu > 1 {
-                out.push(b',')?;
-            }
-            show_thread(&mut out, cpu)?;
+    for number in 1..MOST_NUMBERS {
+        if let Some(thread) = thread_numbered(kind, board, number) {
+            out.push(if out.is_empty() { b'm' } else { b',' })?;
+            show_thread(&mut out, thread)?;
         }
+    }
+    if out.is_empty() {
+        out.push(b'l')?;
     }
     Ok(out)
 }
 
 /// The list of all threads with their names, in XML.
-pub fn thread_document(alloc: Global, board: &Board) -> Result<Vec<u8>, NoMemory> {
+pub fn thread_document(
+    alloc: Global,
+    kind: ThreadKind,
+    board: &Board,
+) -> Result<Vec<u8>, NoMemory> {
     let mut out = Vec::new(alloc);
     out.extend_from_slice(b"<?xml version=\"1.0\"?>\n<threads>\n")?;
-    for cpu in 1..9u8 {
-        if let Some(standing) = board.standing(cpu) {
-            show_element(alloc, &mut out, cpu, standing)?;
+    for number in 1..MOST_NUMBERS {
+        if let Some(thread) = thread_numbered(kind, board, number) {
+            show_element(alloc, &mut out, board, thread)?;
         }
     }
     out.extend_from_slice(b"</threads>\n")?;
@@ -87,13 +432,140 @@ pub fn thread_document(alloc: Global, board: &Board) -> Result<Vec<u8>, NoMemory
 fn show_element(
     alloc: Global,
     out: &mut Vec<u8>,
-    cpu: u8,
-    standing: Standing,
+    board: &Board,
+    thread: Thread,
 ) -> Result<(), NoMemory> {
-    let front = format!(in alloc; "<thread id=\"{cpu}\" core=\"{cpu}\" name=\"")?;
-    out.extend_from_slice(front.as_bytes())?;
-    show_standing(alloc, out, standing)?;
-    out.extend_from_slice(b"\"/>\n")?;
+    out.extend_from_slice(b"<thread id=\"")?;
+    show_thread(out, thread)?;
+    let cpu = cpu_of(board, thread);
+    let middle = format!(in alloc; "\" core=\"{cpu}\" name=\"")?;
+    out.extend_from_slice(middle.as_bytes())?;
+    show_name(alloc, out, board, thread)?;
+    out.extend_from_slice(b"\">")?;
+    show_doing(alloc, out, board, thread)?;
+    out.extend_from_slice(b"</thread>\n")?;
+    Ok(())
+}
+
+/// Puts the name of a thread at the end: who it is.
+fn show_name(
+    alloc: Global,
+    out: &mut Vec<u8>,
+    board: &Board,
+    thread: Thread,
+) -> Result<(), NoMemory> {
+    match who_at(board, thread) {
+        Some(standing) => show_standing(alloc, out, standing),
+        None => Ok(()),
+    }
+}
+
+/// Puts at the end where a thread is, and what it does there: of a processor nothing, which its name says.
+fn show_doing(
+    alloc: Global,
+    out: &mut Vec<u8>,
+    board: &Board,
+    thread: Thread,
+) -> Result<(), NoMemory> {
+    let cpu = cpu_of(board, thread);
+    match thread {
+        Thread::Processor(_) => Ok(()),
+        Thread::Handler(_) => show_number(alloc, out, "cpu", cpu as u16),
+        Thread::Task(id) => {
+            show_number(alloc, out, "cpu", cpu as u16)?;
+            out.extend_from_slice(b", ")?;
+            match board.task(id) {
+                Some(task) => show_state(alloc, out, board, id, task),
+                None => Ok(()),
+            }
+        }
+    }
+}
+
+/// Puts at the end what a task does.
+fn show_state(
+    alloc: Global,
+    out: &mut Vec<u8>,
+    board: &Board,
+    id: TaskId,
+    task: TaskView,
+) -> Result<(), NoMemory> {
+    match task.state {
+        TaskState::Ready => show_ready(alloc, out, id, board.standing(task.cpu))?,
+        TaskState::WaitingSuspended => out.extend_from_slice(b"suspended, ")?,
+        TaskState::Dormant | TaskState::Waiting | TaskState::Suspended => {}
+    }
+    match task.waiting {
+        Some(reason) => show_reason(alloc, out, reason)?,
+        None => {
+            if matches!(task.state, TaskState::Dormant | TaskState::Suspended) {
+                out.extend_from_slice(state_name(task.state).as_bytes())?;
+            }
+        }
+    }
+    show_due(alloc, out, task.due)
+}
+
+/// Puts at the end whether a ready task executes on its processor, or who does.
+fn show_ready(
+    alloc: Global,
+    out: &mut Vec<u8>,
+    id: TaskId,
+    standing: Option<Standing>,
+) -> Result<(), NoMemory> {
+    match standing {
+        Some(Standing::Task(other)) => {
+            if other == id {
+                out.extend_from_slice(b"runs")?;
+                return Ok(());
+            }
+            show_number(alloc, out, "ready under task", other)
+        }
+        Some(Standing::Handler(line)) => show_number(
+            alloc,
+            out,
+            "ready under handler",
+            line as u16,
+        ),
+        Some(Standing::Idle) | Some(Standing::Stopped) | None => {
+            out.extend_from_slice(b"ready")?;
+            Ok(())
+        }
+    }
+}
+
+/// Puts at the end what a task waits for.
+pub fn show_reason(alloc: Global, out: &mut Vec<u8>, reason: WaitReason) -> Result<(), NoMemory> {
+    match reason {
+        WaitReason::Sleep => out.extend_from_slice(b"waits for a wake-up")?,
+        WaitReason::Delay => out.extend_from_slice(b"waits for the end of a delay")?,
+        WaitReason::On(WaitKind::Semaphore, object) => {
+            show_number(alloc, out, "waits for semaphore", object as u16)?
+        }
+        WaitReason::On(WaitKind::Flag, object) => {
+            show_number(alloc, out, "waits for event flag", object as u16)?
+        }
+        WaitReason::On(WaitKind::Room, object) => {
+            show_number(alloc, out, "waits to send to data queue", object as u16)?
+        }
+        WaitReason::On(WaitKind::Datum, object) => {
+            show_number(
+                alloc,
+                out,
+                "waits to receive from data queue",
+                object as u16,
+            )?
+        }
+    }
+    Ok(())
+}
+
+/// Puts at the end when a wait ends, where it has an end.
+pub fn show_due(alloc: Global, out: &mut Vec<u8>, due: Option<u64>) -> Result<(), NoMemory> {
+    if let Some(tick) = due {
+        let text = format!(in alloc; ", until tick {tick}")?;
+        out.extend_from_slice(text.as_bytes())?;
+    }
     Ok(())
 }
 
@@ -115,14 +587,13 @@ fn show_number(alloc: Global, out: &mut Vec<u8>, name: &str, number: u16) -> Res
     Ok(())
 }
 
-/// What there is to say of a thread: what the processor is doing, and of a task its state.
-pub fn thread_text(alloc: Global, board: &Board, cpu: u8) -> Result<Vec<u8>, NoMemory> {
+/// What there is to say of a thread: of a task or handler where it is, and what it does; of a processor whom it executes.
+pub fn thread_text(alloc: Global, board: &Board, thread: Thread) -> Result<Vec<u8>, NoMemory> {
     let mut out = Vec::new(alloc);
-    match board.standing(cpu) {
-        None => {}
-        Some(Standing::Task(id)) => show_task(alloc, &mut out, board, id)?,
-        Some(standing) => show_standing(alloc, &mut out, standing)?,
+    if let Thread::Processor(_) = thread {
+        show_name(alloc, &mut out, board, thread)?;
     }
+    show_doing(alloc, &mut out, board, thread)?;
     Ok(out)
 }
 

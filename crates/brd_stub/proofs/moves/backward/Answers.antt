@@ -6,7 +6,7 @@ use Rattle.brd_stub.proofs.moves.backward.Goals as goal
 
 pub returns-in-None : goal.returns-in-None
 returns-in-None g c =
-    if-then _ _ (λ stop does. goes-to-begin c.args.origin.points.now c.args.origin.thread c.args.origin.told
+    if-then _ _ (λ stop does. goes-to-begin c.args.origin.points.now c.args.origin.last c.args.origin.told
     c.args.debugger.now
     c.last_stop_telling.new.self _ c.in_ok-last_stop_telling.field-0 c.in-None.is
     c.in_ok-last_stop_telling.ensures.greatest
@@ -14,7 +14,7 @@ returns-in-None g c =
 
 pub returns-in-Some : goal.returns-in-Some
 returns-in-Some g c =
-    if-then _ _ (λ stop does. goes-back c.args.origin.points.now c.args.origin.thread c.args.origin.told
+    if-then _ _ (λ stop does. goes-back c.args.origin.points.now c.args.origin.last c.args.origin.told
     c.args.debugger.now
     c.last_stop_telling.new.self _ c.in_ok-last_stop_telling.field-0 _ c.is_told_behind-is_told.result c.in-Some.is
     (c.is_told_behind-is_told.ensures ∙ ap (λ n. is_told_behind c.args.origin.told (n - c.in-Some.found))

@@ -5,4 +5,4 @@ use Rattle.brd_stub.proofs.moves.begin.Goals as goal
 
 pub returns : goal.returns
 returns g c =
-    c.stop_there.ensures ∙ ap (stands_there c.args.origin.thread Reason.Begin) c.in_ok-show_at.ensures
+    c.stop_there.ensures ∙ ap (stands_there c.args.origin.last Reason.Begin) c.in_ok-show_at.ensures

@@ -6,5 +6,5 @@ use Rattle.brd_stub.proofs.moves.end.Goals as goal
 pub returns : goal.returns
 returns g c =
     c.stop_there.ensures
-    ∙ ap (stands_there c.args.origin.thread Reason.End)
+    ∙ ap (stands_there c.args.origin.last Reason.End)
     (c.in_ok-show_at.ensures ∙ ap (moved_to c.args.debugger.now) c.len-len.ensures.is)

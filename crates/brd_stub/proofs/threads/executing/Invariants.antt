@@ -1,6 +1,6 @@
 -- nobody is executed on the processors so far
 use Rattle.std.proofs.Common.{◌≡◌, ◌-◌}
-use Rattle.brd_stub.specs.Reasons.{first_executing}
+use Rattle.brd_stub.specs.Threads.{first_executing}
 use Rattle.brd_stub.proofs.threads.executing.Given as goal
 
 abbrev pub invariant-loop-other : goal.invariant-loop-other

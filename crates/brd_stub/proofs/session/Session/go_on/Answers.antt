@@ -7,6 +7,6 @@ pub returns-clause-becomes : goal.returns-clause-becomes
 returns-clause-becomes g c =
     if-all _ (move-ends GoesForward c.args.self.now c.prepare.new.self c.stopped.new.self
     (stepping c.args.self.now.points c.args.stepped c.args.self.now.debugger)
-    (record { debugger = c.forward.new.debugger; stop = c.in_ok-stop.stop }) c.as_slice.result.now c.stepping.result
-    c.prepare.ensures c.as_slice.ensures.is c.stepping.ensures c.in_ok-stop.ensures c.stopped.ensures.becomes)
+    (record { debugger = c.forward.new.debugger; stop = c.in_ok-stop.stop }) c.as_slice.result.now c.whose-last.result
+    c.prepare.ensures c.as_slice.ensures.is c.whose-last.ensures c.in_ok-stop.ensures c.stopped.ensures.becomes)
     c.stopped.result
