@@ -141,6 +141,26 @@ Thread 2( ".*")? hit Breakpoint 2, 0x80000024 in .*
 > reverse-stepi
 0x80000028 in .*
 END
+    # The cause and the place of an exception, once it has come; and all registers.
+    session "the registers of an exception, $order-endian" << 'END'
+> continue
+Thread 1( ".*")? received signal SIGBUS, Bus error\.
+> print $cause
+\$1 = <unavailable>
+> continue
+No more reverse-execution history\.
+> info threads
+\* 1 +Thread 1 "task 1" \(cpu 1, dormant\) 0x80000018 in .*
+  2 +Thread 2 "task 2" \(cpu 2, runs\) .*
+> printf "%x %x\n", $cause, $epc
+80000010 80000014
+> info all-registers
+ +zero +at .*
+.*80000010.*
+ f0: .*
+.* epc .*
+.*80000014.*
+END
     # A task that an exception has ended, and beyond: its processor has nothing to execute.
     session "after an exception, $order-endian" << 'END'
 > continue
@@ -187,7 +207,8 @@ Thread 2( ".*")? hit Breakpoint 1, 0x80000024 in .*
   2 +Thread 2 .*
 END
 
-# A step over a call that assigns its caller to another processor ends on that one, once the caller goes on there.
+# A step over a call that assigns its caller to another processor ends on that one, once the caller goes on there: in
+# the same thread where tasks are threads, in another one where processors are.
 for order in big little; do
     elf=$work/mover.$order
     { echo "        .byteorder $order"; cat tests/data/gdb/mover.s; } > "$work/mover.s"
@@ -195,6 +216,33 @@ for order in big little; do
     cfg=tests/data/gdb/mover.cfg
     ordered tests/data/gdb/mover.journal
     session "a step over a call that moves its caller to another processor, $order-endian" << 'END'
+> stepi 3
+0x8000000c in .*
+> stepi
+0x80000010 in .*
+> monitor where
+position 20 of 40: .*
+> info threads
+\* 1 +Thread 1 "task 1" \(cpu 2, runs\) 0x80000010 in .*
+  2 +Thread 2 "task 2" \(cpu 1, runs\) .*
+  3 +Thread 3 "task 3" \(cpu 2, dormant\) .*
+> reverse-stepi
+0x8000000c in .*
+> info threads
+\* 1 +Thread 1 "task 1" \(cpu 1, runs\) 0x8000000c in .*
+> stepi
+0x80000010 in .*
+> stepi
+0x80000014 in .*
+> printf "t0=%d\n", $t0
+t0=1
+END
+    session "the same where processors are threads, $order-endian" << 'END'
+> monitor threads processors
+threads are the processors
+> info threads
+\* 1 +Thread 1 "task 1" 0x80000000 in .*
+  2 +Thread 2 "task 3" .*
 > stepi 3
 0x8000000c in .*
 > stepi
@@ -302,6 +350,26 @@ done
 elf=$work/parts.big
 "$board" asm tests/data/gdb/parts.s "$elf"
 journal=tests/data/gdb/parts.journal
+session "a watch, and a break at the instruction that stores" << 'END'
+> break *0x8000001c
+Breakpoint 1 at 0x8000001c
+> watch *(short *)0x8000004e
+Hardware watchpoint 2: .*
+> continue
+Breakpoint 1, 0x8000001c in .*
+> continue
+Hardware watchpoint 2: .*
+Old value = 0
+New value = 4
+0x80000020 in .*
+> stepi 2
+0x80000028 in .*
+> reverse-continue
+The watch was met by the instruction at this break\.
+Breakpoint 1, 0x8000001c in .*
+> monitor where
+position 7 of 40: .*
+END
 session "the bytes of unaligned loads, big-endian" << 'END'
 > rwatch *(char *)0x80000043
 Hardware read watchpoint 1: .*
@@ -390,6 +458,36 @@ journal=examples/interrupt/interrupt.journal
 "$board" asm examples/interrupt/interrupt.s "$elf"
 shows 9 10 27 46
 
+# A handler is a thread while it runs, and the task under it keeps its own; steps of the task pass over it both ways.
+session "a handler as a thread" << 'END'
+> tbreak *0x80000030
+Temporary breakpoint 1 at 0x80000030
+> continue
+Thread 3( ".*")? hit Temporary breakpoint 1, 0x80000030 in .*
+> info threads
+  1 +Thread 1 "task 1" \(cpu 1, waits for a wake-up\) 0x80000008 in .*
+  2 +Thread 2 "task 2" \(cpu 1, ready under handler 4\) 0x80000028 in .*
+\* 3 +Thread 260 "handler 4" \(cpu 1\) 0x80000030 in .*
+> stepi
+0x80000034 in .*
+> thread 2
+\[Switching to thread 2 .*
+#0  0x80000028 in .*
+> stepi
+0x8000002c in .*
+> info threads
+  1 +Thread 1 "task 1" .*
+\* 2 +Thread 2 "task 2" .*
+> reverse-stepi
+0x80000028 in .*
+> reverse-stepi
+0x80000024 in .*
+> thread 1
+\[Switching to thread 1 .*
+> stepi
+0x8000000c in .*
+END
+
 # (A line whose processor is stopped is accepted no more, so a deadlock is told.)
 elf=$work/stopped.elf
 cfg=tests/data/gdb/stopped.cfg
@@ -407,7 +505,7 @@ session "the registers of a product" << 'END'
 > tbreak *0x80000060
 Temporary breakpoint 1 at 0x80000060
 > continue
-Temporary breakpoint 1, 0x80000060 in .*
+Thread 8( ".*")? hit Temporary breakpoint 1, 0x80000060 in .*
 > stepi 3
 0x8000006c in .*
 > printf "%x %x\n", $lo, $hi
@@ -455,7 +553,9 @@ past 40
 position 0 of 40: a step of processor 1 comes
 > monitor help
 goto N: goes to position N
+reset, restart: goes to position 0
 where: the position, and whose step comes
+threads tasks, threads processors: what threads are
 tasks: the tasks and their states
 objects: who waits for what
 console: what was written to the console
@@ -464,6 +564,60 @@ trace N: .*
 summary: .*
 > monitor nothing
 unknown; .*
+END
+
+# Tasks as threads: each with what it does and its own context, also while it waits; and processors as threads.
+session "tasks that wait, as threads" << 'END'
+> tbreak *0x80000060
+Temporary breakpoint 1 at 0x80000060
+> continue
+Thread 8( ".*")? hit Temporary breakpoint 1, 0x80000060 in .*
+> info threads
+  1 +Thread 1 "task 1" \(cpu 1, waits for a wake-up\) 0x80000008 in .*
+  2 +Thread 2 "task 2" \(cpu 1, waits for the end of a delay, until tick 6\) 0x80000014 in .*
+  3 +Thread 3 "task 3" \(cpu 1, waits for semaphore 1\) 0x80000020 in .*
+  4 +Thread 4 "task 4" \(cpu 1, waits for semaphore 1, until tick 10\) 0x80000030 in .*
+  5 +Thread 5 "task 5" \(cpu 1, waits for event flag 1\) 0x80000044 in .*
+  6 +Thread 6 "task 6" \(cpu 1, waits to send to data queue 1\) 0x80000054 in .*
+  7 +Thread 7 "task 7" \(cpu 1, waits to receive from data queue 2\) 0x80000060 in .*
+\* 8 +Thread 8 "task 8" \(cpu 1, runs\) 0x80000060 in .*
+  9 +Thread 9 "task 9" \(cpu 1, dormant\) 0x80000060 in .*
+> thread 4
+\[Switching to thread 4 .*
+#0  0x80000030 in .*
+> printf "%d %d\n", $a0, $a1
+1 9
+> reverse-stepi
+0x8000002c in .*
+> monitor where
+position 11 of 40: .*
+> thread 6
+\[Switching to thread 6 .*
+> printf "%x\n", $pc
+80000044
+> monitor threads processors
+threads are the processors
+> monitor goto 24
+at 24
+> maintenance flush register-cache
+> info threads
+  1 +Thread 1 "task 8" 0x80000060 in .*
+> thread 1
+\[Switching to thread 1 .*
+> stepi
+0x80000064 in .*
+> reverse-stepi
+0x80000060 in .*
+> monitor threads tasks
+threads are the tasks, and the handlers that run
+> maintenance flush register-cache
+> info threads
+.* Thread 3 "task 3" \(cpu 1, waits for semaphore 1\) 0x80000020 in .*
+.* Thread 8 "task 8" \(cpu 1, runs\) 0x80000060 in .*
+> monitor reset
+at 0
+> monitor where
+position 0 of 40: .*
 END
 
 # Every byte of the stream is answered, or ends it: D and k by status 0, an end without them by 4.
@@ -670,7 +824,7 @@ New value = 12
 > tbreak pulse
 Temporary breakpoint 4 at .*
 > continue
-Thread 1( ".*")? hit Temporary breakpoint 4, pulse \(line=3\) at firmware\.c:2[89]
+Thread 3( ".*")? hit Temporary breakpoint 4, pulse \(line=3\) at firmware\.c:2[89]
 2[89]	.*
 > bt
 #0  pulse \(line=3\) at firmware\.c:2[89]
@@ -766,7 +920,7 @@ for level in -O0 -O2; do
     project tests/data/gdb/overflow OPTIMIZE=$level
     session "the cause of an overflow, $level" << 'END'
 > continue
-Program received signal SIGBUS, Bus error\.
+(Program|Thread 2( ".*")?) received signal SIGBUS, Bus error\.
 .*meter \(.*\) at firmware\.c:3[23]
 3[23]	.*
 > print next

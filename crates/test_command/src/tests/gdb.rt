@@ -51,7 +51,7 @@ const PACKETS: &[(&[u8], &[u8])] = &[
     (b"$Hc0#db$D#44", b"+$OK#9a+$OK#9a"),
     (b"$Hg2#e1$D#44", b"+$E01#a6+$OK#9a"),
     (b"$qAttached:1#fa$D#44", b"+$0#30+$OK#9a"),
-    (b"$vCont?#49$D#44", b"+$vCont;c;C;s;S;t;r#be+$OK#9a"),
+    (b"$vCont?#49$D#44", b"+$vCont;c;C;s;S;r#0f+$OK#9a"),
     (b"$p25#d7$D#44", b"+$80000000#88+$OK#9a"),
     (b"$p20#d2$D#44", b"+$xxxxxxxx#c0+$OK#9a"),
     (b"$m80000000,2#53$D#44", b"+$2402#c8+$OK#9a"),
