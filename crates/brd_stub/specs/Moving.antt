@@ -143,7 +143,7 @@ abbrev pub stand_behind : List Point → Whose → Bool → Option Look → Debu
 stand_behind points last is_told None d = stands_there last Reason.Done d
 stand_behind points last is_told (Some look) d =
     if look.touches && not is_told then stands_behind points last look d
-    else (if look.breaks || look.faults then stands_before points last told.Nothing look.touches look d
+    else (if look.breaks || look.faults then stands_before points last told.Nothing is_told look d
     else step_done last d)
 
 -- it goes back further where that was told, and the event is no other stop

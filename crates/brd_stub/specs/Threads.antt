@@ -141,13 +141,6 @@ abbrev pub stepped_thread : ThreadKind → Option Stepper → BoardState → Thr
 stepped_thread kind.Processors stepper b last = thread.Processor (stepped_on stepper b (cpu_of b last))
 stepped_thread kind.Tasks stepper b last = stepped_who stepper last
 
--- a thread, after others are threads
-abbrev pub switched : ThreadKind → BoardState → Thread → Thread
-switched kind.Processors b it = thread.Processor (cpu_of b it)
-switched kind.Tasks b (thread.Task number) = thread.Task number
-switched kind.Tasks b (thread.Handler line) = thread.Handler line
-switched kind.Tasks b (thread.Processor cpu) = thread_on kind.Tasks b cpu (resting b)
-
 -- tasks are threads only where there is one
 abbrev pub may_show : ThreadKind → BoardState → Bool
 may_show kind.Processors b = true
@@ -177,6 +170,15 @@ thread_named kind b (id.One number) other = thread_numbered kind b number
 abbrev pub or_thread : Option Thread → Thread → Thread
 or_thread None other = other
 or_thread (Some it) other = it
+
+-- A thread, after others are threads: the one of the same number, by which GDB still names it; where there is none, the
+-- one that is there on its processor.
+abbrev pub elsewhere : ThreadKind → BoardState → Thread → Thread
+elsewhere kind.Processors b it = thread.Processor (cpu_of b it)
+elsewhere kind.Tasks b it = thread_on kind.Tasks b (cpu_of b it) (resting b)
+
+abbrev pub switched : ThreadKind → BoardState → Thread → Thread
+switched kind b it = or_thread (thread_numbered kind b (number_of it)) (elsewhere kind b it)
 
 -- the thread that a move steps: its own, else the one that steps where none is named
 abbrev pub thread_for : ThreadKind → BoardState → ThreadId → Thread → Thread

@@ -307,7 +307,7 @@ fn stand_behind(
             told: Told::Nothing,
             ..origin
         };
-        return Ok(stop_before(debugger, untold, look, look.touches));
+        return Ok(stop_before(debugger, untold, look, is_told));
     }
     Ok(step_done(debugger, origin))
 }

@@ -26,6 +26,7 @@ ghost use Rattle.brd_stub.specs.Threads.{
   standing_thread,
   stepped_who,
   stepped_thread,
+  elsewhere,
   switched,
   may_show,
   task_numbered,
@@ -292,20 +293,27 @@ pub fn stepped_thread(stepper: Option<Stepper>, board: &Board, last: Whose) -> T
     }
 }
 
-/// A thread, after others are threads.
+/// A thread, after others are threads: the one of the same number; where there is none, the one on its processor.
 pub fn switched(kind: ThreadKind, board: &Board, thread: Thread) -> Thread
     ensures { result ≡ switched kind board.now thread }
 {
+    match thread_numbered(kind, board, thread.number() as u32) {
+        Some(found) => found,
+        None => elsewhere(kind, board, thread),
+    }
+}
+
+/// The thread on the processor of one, after others are threads.
+fn elsewhere(kind: ThreadKind, board: &Board, thread: Thread) -> Thread
+    ensures { result ≡ elsewhere kind board.now thread }
+{
+    let cpu = cpu_of(board, thread);
     match kind {
-        ThreadKind::Processors => Thread::Processor(cpu_of(board, thread)),
-        ThreadKind::Tasks => match thread {
-            Thread::Task(id) => Thread::Task(id),
-            Thread::Handler(line) => Thread::Handler(line),
-            Thread::Processor(cpu) => {
-                let other = resting(board);
-                thread_on(ThreadKind::Tasks, board, cpu, other)
-            }
-        },
+        ThreadKind::Processors => Thread::Processor(cpu),
+        ThreadKind::Tasks => {
+            let other = resting(board);
+            thread_on(ThreadKind::Tasks, board, cpu, other)
+        }
     }
 }
 
