@@ -150,7 +150,7 @@ Thread 1( ".*")? received signal SIGBUS, Bus error\.
 > continue
 No more reverse-execution history\.
 > info threads
-\* 1 +Thread 1 "task 1" \(cpu 1, dormant\) 0x80000018 in .*
+\* 1 +Thread 1 "task 1" \(cpu 1, dormant\) +0x80000018 in .*
   2 +Thread 2 "task 2" \(cpu 2, runs\) .*
 > printf "%x %x\n", $cause, $epc
 80000010 80000014
@@ -158,7 +158,7 @@ No more reverse-execution history\.
  +zero +at .*
 .*80000010.*
  f0: .*
-.* epc .*
+.* epc *
 .*80000014.*
 END
     # A task that an exception has ended, and beyond: its processor has nothing to execute.
@@ -223,13 +223,13 @@ for order in big little; do
 > monitor where
 position 20 of 40: .*
 > info threads
-\* 1 +Thread 1 "task 1" \(cpu 2, runs\) 0x80000010 in .*
+\* 1 +Thread 1 "task 1" \(cpu 2, runs\) +0x80000010 in .*
   2 +Thread 2 "task 2" \(cpu 1, runs\) .*
   3 +Thread 3 "task 3" \(cpu 2, dormant\) .*
 > reverse-stepi
 0x8000000c in .*
 > info threads
-\* 1 +Thread 1 "task 1" \(cpu 1, runs\) 0x8000000c in .*
+\* 1 +Thread 1 "task 1" \(cpu 1, runs\) +0x8000000c in .*
 > stepi
 0x80000010 in .*
 > stepi
@@ -465,9 +465,9 @@ Temporary breakpoint 1 at 0x80000030
 > continue
 Thread 3( ".*")? hit Temporary breakpoint 1, 0x80000030 in .*
 > info threads
-  1 +Thread 1 "task 1" \(cpu 1, waits for a wake-up\) 0x80000008 in .*
-  2 +Thread 2 "task 2" \(cpu 1, ready under handler 4\) 0x80000028 in .*
-\* 3 +Thread 260 "handler 4" \(cpu 1\) 0x80000030 in .*
+  1 +Thread 1 "task 1" \(cpu 1, waits for a wake-up\) +0x80000008 in .*
+  2 +Thread 2 "task 2" \(cpu 1, ready under handler 4\) +0x80000028 in .*
+\* 3 +Thread 260 "handler 4" \(cpu 1\) +0x80000030 in .*
 > stepi
 0x80000034 in .*
 > thread 2
@@ -573,15 +573,15 @@ Temporary breakpoint 1 at 0x80000060
 > continue
 Thread 8( ".*")? hit Temporary breakpoint 1, 0x80000060 in .*
 > info threads
-  1 +Thread 1 "task 1" \(cpu 1, waits for a wake-up\) 0x80000008 in .*
-  2 +Thread 2 "task 2" \(cpu 1, waits for the end of a delay, until tick 6\) 0x80000014 in .*
-  3 +Thread 3 "task 3" \(cpu 1, waits for semaphore 1\) 0x80000020 in .*
-  4 +Thread 4 "task 4" \(cpu 1, waits for semaphore 1, until tick 10\) 0x80000030 in .*
-  5 +Thread 5 "task 5" \(cpu 1, waits for event flag 1\) 0x80000044 in .*
-  6 +Thread 6 "task 6" \(cpu 1, waits to send to data queue 1\) 0x80000054 in .*
-  7 +Thread 7 "task 7" \(cpu 1, waits to receive from data queue 2\) 0x80000060 in .*
-\* 8 +Thread 8 "task 8" \(cpu 1, runs\) 0x80000060 in .*
-  9 +Thread 9 "task 9" \(cpu 1, dormant\) 0x80000060 in .*
+  1 +Thread 1 "task 1" \(cpu 1, waits for a wake-up\) +0x80000008 in .*
+  2 +Thread 2 "task 2" \(cpu 1, waits for the end of a delay, until tick 6\) +0x80000014 in .*
+  3 +Thread 3 "task 3" \(cpu 1, waits for semaphore 1\) +0x80000020 in .*
+  4 +Thread 4 "task 4" \(cpu 1, waits for semaphore 1, until tick 10\) +0x80000030 in .*
+  5 +Thread 5 "task 5" \(cpu 1, waits for event flag 1\) +0x80000044 in .*
+  6 +Thread 6 "task 6" \(cpu 1, waits to send to data queue 1\) +0x80000054 in .*
+  7 +Thread 7 "task 7" \(cpu 1, waits to receive from data queue 2\) +0x80000060 in .*
+\* 8 +Thread 8 "task 8" \(cpu 1, runs\) +0x80000060 in .*
+  9 +Thread 9 "task 9" \(cpu 1, dormant\) +0x80000060 in .*
 > thread 4
 \[Switching to thread 4 .*
 #0  0x80000030 in .*
@@ -612,8 +612,8 @@ at 24
 threads are the tasks, and the handlers that run
 > maintenance flush register-cache
 > info threads
-.* Thread 3 "task 3" \(cpu 1, waits for semaphore 1\) 0x80000020 in .*
-.* Thread 8 "task 8" \(cpu 1, runs\) 0x80000060 in .*
+.* Thread 3 "task 3" \(cpu 1, waits for semaphore 1\) +0x80000020 in .*
+.* Thread 8 "task 8" \(cpu 1, runs\) +0x80000060 in .*
 > monitor reset
 at 0
 > monitor where
