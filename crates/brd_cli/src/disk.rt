@@ -228,8 +228,8 @@ fn can_be_written(rt: &HostRuntime, name: &str, found: &Metadata) -> io::Result<
     Ok(())
 }
 
-/// Whether a file of a name that there isn't can be created: it is, and removed. (A link that leads to nothing is there,
-/// and so isn't created.)
+/// Whether a file of a name that there isn't can be created: it is, and removed. (A link that leads to nothing is
+/// there, and so isn't created.)
 fn can_be_new(rt: &HostRuntime, name: &str) -> io::Result<()> {
     match File::create_new(rt, name) {
         Ok(_file) => fs::remove_file(rt, name),
@@ -261,8 +261,8 @@ struct Place {
 /// The folder of devices, and of standard streams as files.
 const DEVICES: &str = "/dev/";
 
-/// The place of a name: its own, where there is no file; where there is one, and no link is lost, that to which the name
-/// leads. Nothing else can be put at that of a device, a pipe or a standard stream.
+/// The place of a name: its own, where there is no file; where there is one, and no link is lost, that to which the
+/// name leads. Nothing else can be put at that of a device, a pipe or a standard stream.
 fn place_of(rt: &HostRuntime, name: &str) -> Option<Place> {
     if name.starts_with(DEVICES) {
         return None;
