@@ -111,7 +111,8 @@ fn first_of_last(from: u64, to: u64, most: u64) -> u64
     ensures within { result ≤ to }
     ensures enough { (result ≡ from) ⊎ (most ≤ to - result) }
 {
-    if to - from <= most {
+    let events = to - from;
+    if events <= most {
         return from;
     }
     to - most

@@ -3,8 +3,8 @@ use Rattle.brd_page.specs.Page.{IsLastPage}
 use Rattle.brd_command.proofs.try_command.page_of.Goals as goal
 
 -- The page is that of all events, or of the last ones, on the board of the start.
-pub returns-in_ok-page : goal.returns-in_ok-page
-returns-in_ok-page c =
+pub returns : goal.returns
+returns c =
     let start = c.in-Ok.start in
     record {
       start = start;

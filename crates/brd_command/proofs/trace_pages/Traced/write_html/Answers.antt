@@ -3,8 +3,8 @@ use Rattle.brd_page.specs.Page.{IsLastPage}
 use Rattle.brd_command.proofs.TraceLemmas.{page-written}
 use Rattle.brd_command.proofs.trace_pages.Traced.write_html.Goals as goal
 
-pub returns-in_ok-page : goal.returns-in_ok-page
-returns-in_ok-page g c =
+pub returns : goal.returns
+returns g c =
     let boot = c.args.tracer.playback.board in
     let events = c.args.self.now.journal.now.events in
     let from = c.args.self.now.part.from in
