@@ -88,11 +88,12 @@ gate-times:
 	tests/gate/gate_time --write
 
 # Speed, on this machine, of the program of dist/: of `debug` and of races in millions of events a second, of `run` beside
-# QEMU, in millions of instructions.
+# QEMU, in millions of instructions, of `explore` beside SPIN, in seconds.
 bench: unpack
 	tests/programs/debug_speed $(BOARD)
 	tests/programs/race_speed $(BOARD)
 	tests/programs/speed_qemu $(BOARD)
+	tests/programs/search_speed $(BOARD)
 
 # The same of parts of the program, which want Rattle's `rt` and half an hour of proofs on a fresh clone.
 bench-parts:

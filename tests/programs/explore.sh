@@ -435,6 +435,15 @@ assembled lost_update.s
 "$board" shrink "$image" $examples/lost_update.cfg "$work/found" --word count=2 > "$work/wanted"
 refuse_each shrink 3 "board: out of memory" "$board" shrink "$image" $examples/lost_update.cfg "$work/found" --word count=2
 
+# ---- Beside SPIN
+
+what="searches beside SPIN"
+if ! command -v spin > /dev/null || ! command -v cc > /dev/null; then
+    skip "$what" "SPIN and a C compiler"
+else
+    check_script "$what" tests/programs/search_speed "$board" lost_update
+fi
+
 # ---- Random boards beside the model
 
 if have python3 "searches beside the model"; then
