@@ -209,6 +209,20 @@ says "all schedules, without bounds" 0 \
     project "$adders" explore PLACES=1000000
 says "a function that is called" 2 'fails after [0-9]+ events: processor [12] is at add.*' \
     project "$adders" explore LOOK="--reach add"
+# Those of examples/explore/c pass their tests with their mistakes, too, and a search finds these. (The barriers of four
+# tasks take too long here to be searched as they are.)
+none='none fails, however many events and preemptions it has: at most 0 ticks and [0-9] raises?.*'
+says "the programs for searches" 0 "ok: spin_barrier.journal" project examples/explore/c test
+for it in queue deque ring; do
+    says "all schedules of a $it" 0 "$none" project examples/explore/c explore PROGRAM=$it PLACES=1000000
+done
+says "the programs for searches, with mistakes" 0 "ok: spin_barrier.journal" project examples/explore/c test CFLAGS=-DWRONG
+for it in queue deque ring barrier; do
+    says "a mistake of a $it" 2 "the schedule is kept as $work/build/explore.journal" \
+        project examples/explore/c explore PROGRAM=$it CFLAGS=-DWRONG
+done
+says "all schedules of a barrier of three" 0 "$none" \
+    project examples/explore/c explore PROGRAMS="barrier spin_barrier" CFLAGS=-DTASKS=3 PLACES=1000000
 says "sdk/explore without a program" 2 \
     "use: sdk/explore [--shrink] BOARD IMAGE CONFIG NAME.journal [FOUND] OUT [OPTION..]" sdk/explore
 # steps JOURNAL: its other events, and how many steps each processor has before each of them.
