@@ -81,8 +81,6 @@ done
 
 # ---- - for standard input: from where it stands, and once
 
-files="$work/image $work/config $work/journal"
-# shellcheck disable=SC2086
 { echo 'a line that another program reads'; cat "$work/journal"; } > "$work/behind"
 { read -r _; "$board" run "$work/image" "$work/config" -; } < "$work/behind" > "$work/out" 2> "$work/err"
 check "streams: - from where it stands" 0 "$work/report" "" $?
