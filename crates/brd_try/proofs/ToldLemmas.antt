@@ -1,11 +1,14 @@
 -- One register more, and one line more.
-use Rattle.std.proofs.Common.{◌≡◌, ◌∙◌, ℕ, suc, ◌+◌, ◌%◌, ◌^◌, ◌<◌, List, [], ◌++◌, refl, ap, subst, sym, arith, append_assoc, codes}
+use Rattle.std.proofs.Common.{◌≡◌, ◌∙◌, ℕ, suc, ◌+◌, List, [], ◌++◌, refl, ap, subst, sym, arith, append_assoc, codes}
 use Rattle.std.specs.Prelude.{Option, slice_index_or}
 use Rattle.brd_board.specs.Board.{BoardState, task_of}
 use Rattle.brd_exec.specs.State.{State, read}
 use Rattle.brd_isa.specs.Registers.{register_names}
 use Rattle.brd_tasks.specs.declared.task.TaskView.{TaskView}
 use Rattle.brd_try.specs.Told.{lines_to, registers_to, task_text, with_word}
+use Rattle.std.proofs.Common.{ap₂, true}
+use Rattle.std.specs.Prelude.{◌-◌, nat_lt, length, take, if◌then◌else◌}
+use Rattle.brd_try.specs.Told.{console_text, more_text, whole_text}
 
 first_registers : (s : State) → [] ≡ registers_to s 0
 unfolding registers_to
@@ -39,3 +42,12 @@ next_line tasks b n out so_far next task known is same =
     is ∙ (λ i. known i ++ task_text tasks (n + 1) (same i))
     ∙ append_assoc out (lines_to tasks b n) (task_text tasks (n + 1) (task_of b (n + 1)))
     ∙ ap (λ (rest : List ℕ). out ++ rest) more
+
+-- a console of which only the front is printed
+pub console-long : (out bytes front : List ℕ) (count : ℕ) → nat_lt 1600 (length bytes) ≡ true → front ≡ take 1600 bytes →
+    count ≡ length bytes - 1600 → (out ++ whole_text front) ++ more_text count ≡ out ++ console_text bytes
+unfolding console_text
+console-long out bytes front count long is more =
+    append_assoc out (whole_text front) (more_text count)
+    ∙ ap (λ xs. out ++ xs) (ap₂ (λ (ys : List ℕ) (n : ℕ). whole_text ys ++ more_text n) is more
+    ∙ ap (λ test. if test then whole_text (take 1600 bytes) ++ more_text (length bytes - 1600) else whole_text bytes) (sym long))

@@ -1,7 +1,7 @@
 -- One event more of those that are done in turns, where they end, and why there may be none.
 use Rattle.std.proofs.Common.{◌≡◌, ◌∙◌, ℕ, zero, suc, ◌+◌, ◌<◌, ◌≤◌, refl, List, [], ◌∷◌, ◌++◌, length, take, arith, subst}
 use Rattle.std.proofs.Common.{ap, sym, ⊎_elim, Ok, Err, length-append}
-use Rattle.std.specs.Prelude.{◌⊎◌, Bool, true, false, nat_le, if◌then◌else◌, Option, None, Some, Result, slice_get}
+use Rattle.std.specs.Prelude.{◌⊎◌, Bool, true, false, nat_le, if◌then◌else◌, None, Some, Result, slice_get}
 use Rattle.std.proofs.lemmas.Bool.{cases_lt, leb-false, leb-true}
 use Rattle.std.proofs.lemmas.List.{length-replicate}
 use Rattle.brd_board.specs.declared.event.Event.{Event}

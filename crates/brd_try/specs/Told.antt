@@ -27,7 +27,7 @@ whole_text bytes = bytes ++ (if ends_line bytes then [] else 10 ∷ [])
 abbrev pub more_text : ℕ → List ℕ
 more_text count = codes "(and " ++ decimal count ++ codes " bytes more: --keep, and board run shows them)\n"
 
-abbrev pub console_text : List ℕ → List ℕ
+unfoldable pub console_text : List ℕ → List ℕ
 console_text bytes =
     if nat_lt 1600 (length bytes) then whole_text (take 1600 bytes) ++ more_text (length bytes - 1600)
     else whole_text bytes

@@ -1,5 +1,5 @@
 -- What `try` runs of an object file, and tells.
-use Rattle.std.specs.Prelude.{◌≡◌, ℕ, ◌<◌, nat_lt, false, ◌&&◌, List, length, take}
+use Rattle.std.specs.Prelude.{◌≡◌, ℕ, ◌<◌, nat_lt, false, ◌&&◌, List, take}
 use Rattle.brd_board.specs.Board.{after}
 use Rattle.brd_inputs.specs.Start.{IsStart, KeepsFromBuilding}
 use Rattle.brd_inputs.specs.declared.fault.CommandFault.{CommandFault}

@@ -61,15 +61,17 @@ pub(crate) fn why(
 }
 
 /// Puts a console's bytes at the end, at most so many, and says how many more there are.
+#[tactic(auto, unfolding(crate::specs::Told::console_text))]
 fn put_console(alloc: Global, out: &mut Vec<u8>, bytes: &[u8]) -> Result<(), NoMemory>
     ensures { OnOk result (out.new.items ≡ out.old.items ++ telling.console_text bytes.now) }
 {
-    if bytes.len() <= MOST_OF_CONSOLE {
-        return put_whole(out, bytes);
+    if MOST_OF_CONSOLE < bytes.len() {
+        let (front, rest) = bytes.split_at(MOST_OF_CONSOLE);
+        put_whole(out, front)?;
+        put_more(alloc, out, rest.len())?;
+        return Ok(());
     }
-    let (front, rest) = bytes.split_at(MOST_OF_CONSOLE);
-    put_whole(out, front)?;
-    put_more(alloc, out, rest.len())
+    put_whole(out, bytes)
 }
 
 /// Puts at the end how many more bytes a console has.

@@ -1,4 +1,4 @@
-use Rattle.std.proofs.Common.{◌∙◌, ◌≡◌, refl}
+use Rattle.std.proofs.Common.{◌∙◌, refl}
 use Rattle.brd_schedule.specs.declared.plan.Plan.{Plan}
 use Rattle.brd_schedule.specs.declared.plan.Rule.TheVariants.{InTurns}
 use Rattle.brd_try.proofs.TryLemmas.{taken, unmade, untaken}
