@@ -3,3 +3,4 @@ pub mod SaidLemmas
 pub mod WordsLemmas
 pub mod NumberLemmas
 pub mod UsageLemmas
+pub mod InputLemmas

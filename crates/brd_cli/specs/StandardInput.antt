@@ -1,7 +1,7 @@
 -- Who reads standard input, for which `-` stands where a file is read. It is read once.
-use Rattle.std.specs.Prelude.{ℕ, ◌+◌, ◌-◌, ◌^◌, ◌==◌, List, bytes_eq, codes, if◌then◌else◌, length, map, min, nat_lt}
+use Rattle.std.specs.Prelude.{ℕ, ◌+◌, ◌-◌, ◌^◌, ◌==◌, List, [], ◌∷◌, bytes_eq, codes, if◌then◌else◌, length, min, nat_lt}
 use Rattle.std.specs.Prelude.{Option, None, Some}
-use Rattle.std.specs.List.{after_first, position_or_len, sum}
+use Rattle.std.specs.List.{after_first, position_or_len}
 use Rattle.clap.specs.Words.{Text}
 use Rattle.brd_command.specs.declared.request.Request.{Request}
 use Rattle.brd_command.specs.declared.request.Request.TheVariants.{Words, Asm, Run, Race, Debug, Trace, Journal}
@@ -32,10 +32,14 @@ abbrev pub one_of_data : Text → ℕ
 one_of_data text =
     if nat_lt (position_or_len (λ b. b == 61) text) (length text) then one (after_first (λ b. b == 61) text) else 0
 
--- how many arguments of a request with data are standard input, up to the greatest number of 32 bits
+-- n, and how many more of the files of data are standard input, up to the greatest number of 32 bits
+abbrev pub counted : ℕ → List Text → ℕ
+counted n [] = n
+counted n (text ∷ texts) = counted (min (n + one_of_data text) (2 ^ 32 - 1)) texts
+
+-- how many arguments of a request with data are standard input, up to that number
 abbrev pub all_arguments : Request → List Text → ℕ
-all_arguments request texts =
-    min (arguments request + min (sum (map one_of_data texts)) (2 ^ 32 - 1)) (2 ^ 32 - 1)
+all_arguments request texts = min (arguments request + counted 0 texts) (2 ^ 32 - 1)
 
 -- what is wrong with so many: `debug` and `gdb` read standard input themselves
 abbrev pub fault_of_arguments : Request → ℕ → Option InputFault

@@ -1,7 +1,6 @@
 //! Who reads standard input, which is read once.
 
-ghost use Rattle.std.specs.Prelude.{◌≡◌, ◌≤◌, ◌^◌, ◌-◌, map, min};
-ghost use Rattle.std.specs.List.{sum};
+ghost use Rattle.std.specs.Prelude.{◌≡◌, ◌≤◌, map};
 ghost use Rattle.brd_cli.specs.StandardInput as reading;
 
 use brd_command::Request;
@@ -105,7 +104,7 @@ fn one(name: &[u8]) -> u32
 
 /// How many files of data are standard input; at most so many as 32 bits say.
 fn inputs_of_data(texts: &[&str]) -> u32
-    ensures { result ≡ min (sum (map reading.one_of_data (map (λ text. text.now) texts.now))) (2 ^ 32 - 1) }
+    ensures { result ≡ reading.counted 0 (map (λ text. text.now) texts.now) }
 {
     let mut count = 0u32;
     for text in texts {
