@@ -26,9 +26,9 @@ returns-in-Ok g c =
     (known c.in_ok-board.board events tracer made.start (made.noted events)) in
     let skipped : IsKnown boot events c.skip.new.tracer = c.in_ok-skip.ensures.knows boot begun in
     record {
-      first = c.first_of_last.result;
-      least = c.first_of_last.ensures.least;
-      enough = shown-enough c.first_of_last.result from to c.args.most c.requires.least c.first_of_last.ensures.enough;
+      first = c.first_of_last-first.result;
+      least = c.first_of_last-first.ensures.least;
+      enough = shown-enough c.first_of_last-first.result from to c.args.most c.requires.least c.first_of_last-first.ensures.enough;
       is_page = subst (λ (n : ℕ). IsRunPage boot events n to c.in-Ok.page.items) c.in_ok-skip.ensures.at
           (c.in-Ok.ensures.page boot skipped.played skipped.noted);
     }
