@@ -1,7 +1,7 @@
 use Rattle.std.proofs.Common.{List, ℕ, sym, subst}
 use Rattle.brd_page.specs.Page.{IsLastPage}
 use Rattle.brd_command.proofs.TraceLemmas.{page-written}
-use Rattle.brd_command.proofs.trace_pages.Traced.write_html.Goals as goal
+use Rattle.brd_command.proofs.trace_command.Traced.write_html.Goals as goal
 
 pub returns : goal.returns
 returns g c =

@@ -5,7 +5,7 @@ use Rattle.brd_journal.specs.declared.playback.Playback.{Playback}
 use Rattle.brd_page.specs.Page.{IsRunPage, always_shown}
 use Rattle.brd_command.specs.TraceCommand.{IsKnown}
 use Rattle.brd_command.proofs.TraceLemmas.{known}
-use Rattle.brd_command.proofs.trace_pages.Traced.page_of_last.Goals as goal
+use Rattle.brd_command.proofs.trace_command.Traced.page_of_last.Goals as goal
 
 shown-enough : (first from to most : ℕ) → always_shown ≤ most → (first ≡ from) ⊎ (most ≤ to - first)
     → (first ≡ from) ⊎ (always_shown ≤ to - first)
