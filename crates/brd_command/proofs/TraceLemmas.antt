@@ -1,5 +1,5 @@
 -- A trace of what was read.
-use Rattle.std.proofs.Common.{rules, ◌≡◌, ℕ, ◌-◌, ◌<◌, ◌≤◌, Bool, true, false, List, [], ◌++◌, length, inl, refl, sym, ap, ◌∙◌, subst, arith}
+use Rattle.std.proofs.Common.{rules, ◌≡◌, ℕ, ◌≤◌, Bool, true, false, List, [], ◌++◌, length, inl, refl, sym, ap, ◌∙◌, subst, arith}
 use Rattle.std.specs.Bool.{MatchBool}
 use Rattle.std.specs.Prelude.{Option, Some, None, is_some, IfOk, IfSome, Result, Ok, Err, MatchResult}
 use Rattle.std.specs.Io.KnownBytes.{Appends}
@@ -267,7 +267,7 @@ of_drawing (fault.Trace a) options start from to old new format lines first last
     let events = start.journal.events in
     let from_there : IsUndrawn start.board events (first_of options) to = subst (λ (n : ℕ). IsUndrawn start.board events n to) first of.1.0 in
     let undrawn = subst (λ (n : ℕ). IsUndrawn start.board events (first_of options) n) last from_there in
-    (subst (λ (f : TraceFault). KeepsFromTracing options start f) (sym of.0) (format, (lines, undrawn)), of.1.1)
+    (subst (λ (f : TraceFault). KeepsFromTracing options start f) (sym of.0) (format, lines, undrawn), of.1.1)
 of_drawing (fault.Schedule a) options start from to old new format lines first last of = absurd of
 of_drawing (fault.Search a) options start from to old new format lines first last of = absurd of
 of_drawing fault.Fails options start from to old new format lines first last of = absurd of

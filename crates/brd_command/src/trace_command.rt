@@ -171,9 +171,16 @@ fn write_trace<W: Write, P: Progress>(
             alloc, board, &image, &config, &journal, part.to, writer, progress,
         );
     }
-    if options.summary {
-        warn_of_ends(alloc, &board, &image, &config, &journal, part.to, progress);
-    }
+    warn_of_ends(
+        alloc,
+        &board,
+        &image,
+        &config,
+        &journal,
+        part.to,
+        options.summary,
+        progress,
+    );
     let shown = Options {
         cpu: options.cpu,
         instructions: options.instructions,

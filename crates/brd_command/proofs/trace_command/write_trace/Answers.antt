@@ -1,7 +1,6 @@
 use Rattle.std.proofs.Common.{ℕ, List, ◌≡◌, ◌++◌, refl, sym, ap, ◌∙◌, subst}
 use Rattle.std.specs.Prelude.{MatchResult, Ok}
 use Rattle.brd_board.specs.Board.{BoardState}
-use Rattle.brd_board.specs.declared.event.Event.{Event}
 use Rattle.brd_printer.specs.declared.printer.{Manner.Manner}
 use Rattle.brd_printer.specs.Telling.{shown_by}
 use Rattle.brd_trace.specs.Recorded.{IsNoted}

@@ -1,6 +1,4 @@
 -- There are enough events to be shown in any case, and half as many each time.
-use Rattle.std.proofs.Common.{◌≤◌}
-use Rattle.brd_page.specs.Page.{always_shown}
 use Rattle.brd_command.proofs.trace_command.Traced.last_page.Given as goal
 
 abbrev pub invariant-loop-most : goal.invariant-loop-most
