@@ -28,10 +28,10 @@ is_answer app words found it is passes finds asked texts =
       texts ∙ ap data_in same,
     )
 
-pub returns-in_ok-texts : goal.returns-in_ok-texts
-returns-in_ok-texts g c = λ is.
+pub returns-in-Some : goal.returns-in-Some
+returns-in-Some g c = λ is.
     let parse = c.in_ok-matches.ensures in
-    is_answer _ _ _ _ is parse.kinds parse.ok.2 (search rules) (search rules)
+    is_answer _ _ _ (record { request = c.in-Some.request; texts = c.in_ok-texts.texts }) is parse.kinds parse.ok.2 (search rules) (search rules)
 
 -- what a parse that failed comes to
 refused : (app : App) (words : List Text) (error : Error) (result : Result Line EarlyEnd) → app ≡ board

@@ -12,11 +12,12 @@ none_given all is = ap (λ (it : Option (List Text)). unwrap_or it []) is
 
 pub returns-in-None : goal.returns-in-None
 returns-in-None c =
-    none_given (all_of c.args.name.now (rows_of (found_of c.args.arguments.now)))
+    ap (map (λ text. text.now)) c.new.ensures.items
+    ∙ none_given (all_of c.args.name.now (rows_of (found_of c.args.arguments.now)))
     (c.in-None.ensures ∙ raw_values-rows (found_of c.args.arguments.now) c.args.name.now)
 
-pub returns-in_ok-all : goal.returns-in_ok-all
-returns-in_ok-all c =
-    ap (map (λ text. text.now)) c.in_ok-all.ensures
+pub returns-in_ok-all-in-Some : goal.returns-in_ok-all-in-Some
+returns-in_ok-all-in-Some c =
+    ap (map (λ text. text.now)) c.in_ok-all-in-Some.ensures.items
     ∙ given _ (all_of c.args.name.now (rows_of (found_of c.args.arguments.now)))
     (c.in-Some.ensures ∙ raw_values-rows (found_of c.args.arguments.now) c.args.name.now)
