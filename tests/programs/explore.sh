@@ -361,7 +361,7 @@ refuses "--word names a symbol that the object file doesn't have" --word nothing
 refuses "--events is a number from 0 to 1,000,000" --events 1000001
 refuses "--fair is a number of rounds from 0 to 20,000" --fair 20001
 for option in "--fair 1" "--remember 1" "--shard 1/1" --shortest; do
-    refuses "--places goes with none of --fair, --remember, --shard and --shortest" --places 10 $option
+    refuses "--places goes with none of --fair, --reach, --remember, --shard and --shortest" --places 10 $option
 done
 refuses "not known: there are more than --places places" --places 1
 refuses "--remember is a number of MiB from 0 to 4,096" --remember 4097
