@@ -10,6 +10,7 @@ import subprocess
 import xml.etree.ElementTree
 
 SECONDS, MEMORY = 60, 3 << 30
+FAULT = re.compile(rb"board: the [a-z ]+: (line \d+)?")
 LINE = re.compile(rb"board: [ -~]*\n")
 # What is told of an input that is done all the same.
 WARNINGS = re.compile(rb"(board: warning: [ -~]*\n)*")
@@ -37,6 +38,12 @@ STREAMS = ("without 0", "without 1", "without 2", "without 012", "a full output"
            "a pipe that ends")
 REFUSED = "a growth refused"
 WAYS = (REFUSED, *STREAMS)
+
+
+def fault_of(said):
+    """Whose fault a line of standard error tells, and at which line: without memory for a hint it has other words."""
+    found = FAULT.match(said)
+    return found[0] if found else said
 
 
 class Ended:
@@ -152,7 +159,7 @@ class Runs:
             wrong = wrong or self.unfinished(case, ended, ample)
         elif case.kind == "race":
             wrong = self.look(case, ended)
-        elif (ended.stdout, ended.stderr, ended.files) != (ample.stdout, ample.stderr, ample.files):
+        elif (ended.stdout, fault_of(ended.stderr), ended.files) != (ample.stdout, fault_of(ample.stderr), ample.files):
             wrong = "another output than with ample memory"
         elif ended.warnings not in (b"", ample.warnings):
             wrong = "other warnings than with ample memory"
