@@ -15,12 +15,13 @@ asm() {
     check "asm: $1" "$2" "$work/nothing" "$3" "$got"
 }
 
-# Each line of asm.table is a source with the bytes of its object file, or its fault.
+# Each line of asm.table is a source with the bytes of its object file, and what is warned of, or its fault.
 while IFS='|' read -r name source status bytes error; do
     case $name in '' | '#'*) continue ;; esac
     printf '%b' "$source" > "$work/source"
     printf '%b' "$(sed 's/[0-9a-f][0-9a-f]/\\x&/g' <<< "${bytes// /}")" > "$work/wanted"
-    asm "$name" "$status" "${error:+$front$error}"
+    [ "$status" != 0 ] || error=${error:+warning: the source: $error}
+    asm "$name" "$status" "${error:+${front%the source: }${error/#line/the source: line}}"
 done < tests/data/asm.table
 
 # Its files: the source is opened first, and OUT is emptied before the source is read.
@@ -88,10 +89,18 @@ asm "65,535 segments" 1 "${front}its image has more segments or bytes than an ob
 # warning EXAMPLE: what is warned of an example, if anything: words that are no program, and lab 1, of which it is right.
 warning() {
     local slot="stands in the slot of the branch on line" exception="which is an exception where it is executed"
+    local at="stands at the slot of the" done="which does what is there before it goes" nop="write nop before it"
     case $1 in
         examples/delay_slot.s) echo "line 6: what comes here runs off the end of the program: end a task by ext_tsk, the" \
             "board by ext_ker" ;;
-        examples/labs/1/lab.s) echo "line 23: jr $slot 22, $exception" && echo "line 31: jal $slot 30, $exception" ;;
+        examples/labs/1/lab.s)
+            echo "line 10: move reads the answer in the slot of the jal on line 9, before what that calls is done: $nop"
+            echo "line 23: jr $slot 22, $exception"
+            echo "line 26: the label print $at jr on line 23, $done: $nop"
+            echo "line 31: jal $slot 30, $exception"
+            echo "line 32: the label last $at jal on line 31, $done: $nop"
+            echo "line 38: the label numbers $at jr on line 35, $done: $nop"
+            ;;
     esac | sed 's/^/board: warning: the source: /'
 }
 
