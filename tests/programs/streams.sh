@@ -127,7 +127,7 @@ racy=examples/lost_update/racy
 "$board" asm $racy.s "$work/racy"
 explore=(explore "$work/racy" $racy.cfg --console 9 --ends)
 shrink=(shrink "$work/racy" $racy.cfg $racy.journal --console 9 --ends)
-"$board" "${explore[@]}" --out "$work/found" > "$work/told"
+"$board" "${explore[@]}" --out "$work/found" > "$work/told" 2> "$work/err"
 verdict "streams: a schedule that fails" "$([ $? = 5 ] || echo "another status")"
 "$board" "${shrink[@]}" --out "$work/left" > "$work/shrunk"
 verdict "streams: a journal that is made shorter" "$([ $? = 0 ] || echo "another status")"
@@ -223,17 +223,17 @@ whole "OUT of race" "$work/object" race "$work/image" "$work/config" "$work/noth
 
 # What it is stays: a link, its permissions, a pipe, a device.
 chmod 600 "$work/object"
-"$board" "${explore[@]}" --out "$work/linked.out" > "$work/out"
+"$board" "${explore[@]}" --out "$work/linked.out" > "$work/out" 2> "$work/err"
 verdict "streams: OUT is a link" "$([ -L "$work/linked.out" ] || echo "it is none any more"; cmp "$work/object" "$work/found" 2>&1)"
 verdict "streams: the permissions of OUT" "$([ "$(stat -c %a "$work/object")" = 600 ] || stat -c %a "$work/object")"
 cat < "$work/pipe.out" > "$work/again" &
-"$board" "${explore[@]}" --out "$work/pipe.out" > "$work/out"
+"$board" "${explore[@]}" --out "$work/pipe.out" > "$work/out" 2> "$work/err"
 wait
 verdict "streams: OUT is a pipe" "$(cmp "$work/again" "$work/found" 2>&1)"
 "$board" "${explore[@]}" --out /dev/full > "$work/out" 2> "$work/err"
 check "streams: OUT is a device" 4 "$work/told" "$is_full_output" $?
 ln "$work/object" "$work/hard"
-"$board" "${explore[@]}" --out "$work/hard" > "$work/out"
+"$board" "${explore[@]}" --out "$work/hard" > "$work/out" 2> "$work/err"
 verdict "streams: OUT has another name" "$(cmp "$work/object" "$work/found" 2>&1)"
 "$board" "${explore[@]}" --out /dev/stdout > "$work/out"
 verdict "streams: OUT is standard output" "$(cat "$work/out" | grep -q '^fails after' || echo "it isn't told")"
