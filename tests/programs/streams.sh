@@ -235,7 +235,7 @@ check "streams: OUT is a device" 4 "$work/told" "$is_full_output" $?
 ln "$work/object" "$work/hard"
 "$board" "${explore[@]}" --out "$work/hard" > "$work/out" 2> "$work/err"
 verdict "streams: OUT has another name" "$(cmp "$work/object" "$work/found" 2>&1)"
-"$board" "${explore[@]}" --out /dev/stdout > "$work/out"
+"$board" "${explore[@]}" --out /dev/stdout > "$work/out" 2> "$work/err"
 verdict "streams: OUT is standard output" "$(cat "$work/out" | grep -q '^fails after' || echo "it isn't told")"
 "$board" race "$work/image" "$work/config" "$work/nothing" 10 "$work/linked.out" > "$work/out" 2> "$work/err"
 check "streams: OUT of race is a link" 0 "$work/report" "" $?
@@ -244,7 +244,7 @@ if [ "$(id -u)" != 0 ]; then
     mkdir "$work/shut"
     printf '%s' "$kept" > "$work/shut/object"
     chmod 500 "$work/shut"
-    "$board" "${explore[@]}" --out "$work/shut/object" > "$work/out"
+    "$board" "${explore[@]}" --out "$work/shut/object" > "$work/out" 2> "$work/err"
     verdict "streams: OUT in a folder that takes no other file" "$(cmp "$work/shut/object" "$work/found" 2>&1)"
     chmod 700 "$work/shut"
     chmod 400 "$work/object"
