@@ -127,7 +127,23 @@ impl<F: Files> Files for Laid<F> {
         self.files.create(name)
     }
 
+    fn begin(&mut self, name: &str) -> io::Result<F::Output> {
+        self.files.begin(name)
+    }
+
+    fn renew(&mut self, name: &str) -> io::Result<F::Output> {
+        self.files.renew(name)
+    }
+
+    fn try_create(&self, name: &str, image: &str, config: &str) -> io::Result<()> {
+        self.files.try_create(name, image, config)
+    }
+
     fn close(&mut self, output: F::Output) {
         self.files.close(output)
+    }
+
+    fn keep(&mut self, output: F::Output) -> io::Result<()> {
+        self.files.keep(output)
     }
 }
