@@ -225,6 +225,28 @@ says "orders of two processors, little-endian" 0 \
 says "orders of two processors" 0 "ok: 5 orders, from seed 7 on, with the console of firmware.journal" \
     project examples/c_two_processors hunt TRIES=5 SEED=7
 
+# Turns fit what the program does: of each size in some orders, however long it is, and never too many.
+cat > "$work/turns" << 'END'
+from importlib.machinery import SourceFileLoader
+from importlib.util import module_from_spec, spec_from_loader
+
+loader = SourceFileLoader("hunt", "sdk/hunt")
+hunt = module_from_spec(spec_from_loader("hunt", loader))
+loader.exec_module(hunt)
+for steps in (2000, 100000, 1000000):
+    runs = [["S", 1, steps], ["S", 2, steps], ["T", 1], ["S", 1, 9000000]]
+    longest = []
+    for seed in range(2, 22, 2):
+        found = hunt.Order(runs, [], seed, set(), (2 * steps, 1)).found
+        if sum(it[2] for it in found if it[0] == "S") != 2 * steps + 9000000 or len(found) > 400000:
+            print(f"{steps} steps: {len(found)} turns, or other steps")
+        # (Who is left alone in the end goes on for all that is left.)
+        longest.append(max(it[2] for it in found[:10 + len(found) // 4]))
+    if min(longest) * 8 > max(longest) or max(longest) > steps:
+        print(f"{steps} steps: turns of {min(longest)} to {max(longest)}")
+END
+verdict "kit: turns fit the program" "$(python3 "$work/turns" 2>&1)"
+
 # On one processor lines are raised earlier: between which instructions, that makes the orders. Without that there is one.
 for level in -O0 -O2; do
     says "orders of interrupts, $level" 0 "*" project "$interrupted" hunt OPTIMIZE=$level TRIES=30
