@@ -1,15 +1,11 @@
 -- A search of what was read.
 use Rattle.std.proofs.Common.{◌≡◌, ℕ, ◌<◌, ◌≤◌, true, false, List, refl, sym, inl, inr, subst, arith}
 use Rattle.std.specs.Prelude.{Option, Some, None, IfSome, Result, Ok, Err, MatchResult, option_map}
-use Rattle.std.specs.Io.KnownBytes.{Appends, Keeps}
-use Rattle.std.specs.declared.io.Error.{Error}
 use Rattle.brd_board.specs.declared.event.Event.{Event}
 use Rattle.brd_explore.specs.declared.bounds.Bounds.{Bounds}
 use Rattle.brd_image.specs.declared.building.Loaded.{Loaded}
-use Rattle.brd_inputs.specs.Start.{IsLoaded, KeepsFromLoading}
+use Rattle.brd_inputs.specs.Start.{IsLoaded}
 use Rattle.brd_inputs.specs.declared.fault.CommandFault.{CommandFault}
-use Rattle.brd_inputs.specs.declared.fault.CommandFault.TheVariants.{Write}
-use Rattle.brd_report.specs.Output.{AppendsFront}
 use Rattle.brd_search.specs.Plans.{IsPlan}
 use Rattle.brd_search.specs.Searches.{Answers, IsFewest, IsShortest}
 use Rattle.brd_search.specs.Shown.{shown}
@@ -20,57 +16,28 @@ use Rattle.brd_board.specs.Board.{BoardState}
 use Rattle.brd_places.specs.declared.left.Left.{Left}
 use Rattle.brd_reach.specs.Reaching.{ReachedSo}
 use Rattle.brd_reach.specs.declared.searching.Reached.TheVariants as reached
-use Rattle.brd_running.specs.ExploreCommand.{Explores, IsReached, IsTold, IsUntoldOfAll, KeepsFromSearching, RefusesExploring, Tells, left_by}
+use Rattle.brd_running.specs.ExploreCommand.{IsExplored, IsReached, IsTold, IsUntoldOfAll, KeepsFromExploring}
+use Rattle.brd_running.specs.ExploreCommand.{KeepsFromSearching, Tells, left_by}
 use Rattle.brd_running.specs.Saving.{IsOfJournal}
 use Rattle.brd_running.specs.declared.explore_command.Told.{Told}
 use Rattle.brd_running.proofs.SavingLemmas.{of_search}
-
-pub keeps : (known : Option (List ℕ)) → Keeps known known
-keeps None = tt
-keeps (Some bytes) = refl
 
 -- both were read, and make this
 abbrev pub Loads : Loaded → Option (List ℕ) → Option (List ℕ) → Type 0
 Loads loaded image config = IfSome image (λ i. IfSome config (λ c. IsLoaded i c loaded))
 
-abbrev pub Refuses : SearchOptions → Option (List ℕ) → Option (List ℕ) → Option (List ℕ) → Option (List ℕ) → CommandFault → Type 0
-Refuses options image config old new fault = IfSome image (λ i. IfSome config (λ c. RefusesExploring options i c old new fault))
-
-module _ (options : SearchOptions) where
-  pub unread : (image config old new : Option (List ℕ)) (fault : CommandFault)
-      → IfSome image (λ i. IfSome config (λ c. KeepsFromLoading i c fault)) → Keeps old new → Refuses options image config old new fault
-  unread None config old new fault keeps same = tt
-  unread (Some i) None old new fault keeps same = tt
-  unread (Some i) (Some c) old new fault keeps same = inl (inl keeps, same)
-
-  pub untold : (loaded : Loaded) (image config old new : Option (List ℕ)) (fault : CommandFault)
-      → Loads loaded image config → KeepsFromSearching options loaded fault → Keeps old new → Refuses options image config old new fault
-  untold loaded None config old new fault loads keeps same = tt
-  untold loaded (Some i) None old new fault loads keeps same = tt
-  untold loaded (Some i) (Some c) old new fault loads keeps same =
-      inl (inr (record { loaded = loaded; loads = loads; keeps = keeps }), same)
-
-  pub unwritten : (loaded : Loaded) (image config old new : Option (List ℕ)) (error : Error) (t text : List ℕ) (journal : Option (List ℕ))
-      → Loads loaded image config → IsTold options loaded text journal → t ≡ text → AppendsFront old new t
-      → Refuses options image config old new (Write error)
-  unwritten loaded None config old new error t text journal loads told is written = tt
-  unwritten loaded (Some i) None old new error t text journal loads told is written = tt
-  unwritten loaded (Some i) (Some c) old new error t text journal loads told is written = inr (record {
-    bytes = text;
-    are_meant = (journal, record { loaded = loaded; loads = loads; told = told });
-    written = subst (λ (x : List ℕ). AppendsFront old new x) is written;
-  })
-
-  pub explored : (loaded : Loaded) (image config old new : Option (List ℕ)) (t text : List ℕ) (journal : Option (List ℕ))
-      → Loads loaded image config → IsTold options loaded text journal → t ≡ text → Appends old new t
-      → IfSome image (λ i. IfSome config (λ c. Explores options i c journal old new))
-  explored loaded None config old new t text journal loads told is written = tt
-  explored loaded (Some i) None old new t text journal loads told is written = tt
-  explored loaded (Some i) (Some c) old new t text journal loads told is written = record {
-    text = text;
-    explored = record { loaded = loaded; loads = loads; told = told };
-    written = subst (λ (x : List ℕ). Appends old new x) is written;
-  }
+module _ (options : SearchOptions) (loaded : Loaded) where
+  pub ended : (image config : Option (List ℕ)) (result : Result Told CommandFault) → Loads loaded image config
+      → MatchResult result
+      (λ told. IsTold options loaded told.text.items (option_map (λ text. text.items) told.journal))
+      (KeepsFromSearching options loaded)
+      → IfSome image (λ i. IfSome config (λ c. MatchResult result
+      (λ told. IsExplored options i c told.text.items (option_map (λ text. text.items) told.journal))
+      (KeepsFromExploring options i c)))
+  ended None config result loads told = tt
+  ended (Some i) None result loads told = tt
+  ended (Some i) (Some c) (Ok it) loads told = record { loaded = loaded; loads = loads; told = told }
+  ended (Some i) (Some c) (Err fault) loads keeps = inr (record { loaded = loaded; loads = loads; keeps = keeps })
 
 -- what is told of a schedule that was found, or why it isn't
 pub told_found : (options : SearchOptions) (loaded : Loaded) (plan : Plan) (bounds : Bounds) (events : List Event)

@@ -1,5 +1,6 @@
 -- A race over what was read.
-use Rattle.std.proofs.Common.{◌≡◌, ◌∙◌, inl, inr, ℕ, List, replicate, ap, refl, subst}
+use Rattle.std.proofs.Common.{◌≡◌, ◌∙◌, inl, inr, ℕ, List, [], replicate, ap, refl, subst, sym}
+use Rattle.std.proofs.lemmas.List.{append-nil}
 use Rattle.std.specs.Prelude.{Option, Some, None, IfSome, Result, Ok, Err}
 use Rattle.std.specs.Io.KnownBytes.{Appends, Keeps}
 use Rattle.std.specs.declared.io.Error.{Error}
@@ -10,7 +11,7 @@ use Rattle.brd_threads.specs.Races.{HasRaced}
 use Rattle.brd_threads.specs.Station.{StationState}
 use Rattle.brd_threads.specs.declared.outer.Outer.{Outer}
 use Rattle.brd_report.specs.Output.{AppendsFront}
-use Rattle.brd_running.specs.RaceCommand.{HasEnded, IsShown, KeepsFromRacing, RaceEnds, ShowsStation}
+use Rattle.brd_running.specs.RaceCommand.{HasEnded, IsShown, KeepsFromRacing, RaceEnds, ShowsStation, unkept}
 use Rattle.brd_running.specs.RaceCommand.WritesRaceFront.{in_journal, in_report}
 use Rattle.brd_inputs.specs.Start.{AreWithin, IsRaceStart}
 use Rattle.brd_inputs.specs.declared.fault.CommandFault.{CommandFault}
@@ -119,3 +120,27 @@ shows_station quota n start script quotas items station journal report script-is
       has_ended = shown_ended quota start station ended-given;
       is_shown = shown;
     }
+
+-- ---- a journal that couldn't be put where it belongs
+
+pub whole : (old new : Option (List ℕ)) (bytes : List ℕ) → Appends old new bytes → AppendsFront old new bytes
+whole old new bytes written = record { front = bytes; rest = []; whole = append-nil bytes; written = written }
+
+module _ (quota : ℕ) (out_old out old new : Option (List ℕ)) where
+  abbrev pub HasEndedSo : Result Unit CommandFault → Option (List ℕ) → Option (List ℕ) → Option (List ℕ) → Type 0
+  HasEndedSo result image config text =
+      IfSome image (λ i. IfSome config (λ c. IfSome text (λ t. RaceEnds result quota i c t out_old out old new)))
+
+  not_kept : (error : Error) (result : Result Unit CommandFault) (image config text : Option (List ℕ))
+      → HasEndedSo result image config text → HasEndedSo (unkept result error) image config text
+  not_kept error result None config text ends = tt
+  not_kept error result (Some i) None text ends = tt
+  not_kept error result (Some i) (Some c) None ends = tt
+  not_kept error (Ok done) (Some i) (Some c) (Some t) ends =
+      in_report ends.journal ends.report ends.shows ends.journal_written (whole old new ends.report ends.report_written)
+  not_kept error (Err fault) (Some i) (Some c) (Some t) ends = ends
+
+  pub unkept_ends : (error : Error) (result answer : Result Unit CommandFault) → answer ≡ unkept result error
+      → (image config text : Option (List ℕ)) → HasEndedSo result image config text → HasEndedSo answer image config text
+  unkept_ends error result answer is image config text ends =
+      subst (λ (r : Result Unit CommandFault). HasEndedSo r image config text) (sym is) (not_kept error result image config text ends)

@@ -5,15 +5,10 @@ use Rattle.std.proofs.lemmas.Bool.{true≢false}
 use Rattle.std.proofs.lemmas.List.{length-append, take_more}
 use Rattle.std.proofs.lemmas.Option.{slice_get_within, get_or_from_slice_get}
 use Rattle.brd_board.specs.declared.event.Event.{Event}
-use Rattle.std.specs.Io.KnownBytes.{Appends, Keeps}
-use Rattle.std.specs.declared.io.Error.{Error}
-use Rattle.brd_inputs.specs.Start.{AreWithin, IsStart, KeepsFromStarting}
+use Rattle.brd_inputs.specs.Start.{AreWithin, IsStart}
 use Rattle.brd_inputs.specs.declared.fault.CommandFault.{CommandFault}
-use Rattle.brd_inputs.specs.declared.fault.CommandFault.TheVariants.{Write}
-use Rattle.brd_inputs.specs.declared.input_name.InputName.TheVariants as input_name
 use Rattle.brd_inputs.specs.declared.start.Start.{Start}
-use Rattle.brd_report.specs.Output.{AppendsFront}
-use Rattle.brd_running.specs.ShrinkCommand.{IsShrunk, KeepsFromShrinking, RefusesShrinking, Shrinks}
+use Rattle.brd_running.specs.ShrinkCommand.{IsShrunk, IsShrunkOf, KeepsFromShrinking, RefusesShrinking}
 use Rattle.brd_running.specs.declared.shrink_command.ShrinkOptions.{ShrinkOptions}
 use Rattle.brd_running.specs.declared.shrink_command.Told.{Told}
 use Rattle.brd_running.specs.ShrinkCommand.{IsLookedFor}
@@ -58,51 +53,17 @@ abbrev pub Starts : Start → Option (List ℕ) → Option (List ℕ) → Option
 Starts start image config events =
     IfSome image (λ i. IfSome config (λ c. IfSome events (λ e. AreWithin i c e × IsStart i c e start)))
 
-abbrev pub Refuses : ShrinkOptions → Option (List ℕ) → Option (List ℕ) → Option (List ℕ) → Option (List ℕ) → Option (List ℕ) → CommandFault → Type 0
-Refuses options image config events old new fault =
-    IfSome image (λ i. IfSome config (λ c. IfSome events (λ e. RefusesShrinking options i c e old new fault)))
-
-module _ (options : ShrinkOptions) where
-  pub unread : (image config events old new : Option (List ℕ)) (fault : CommandFault)
-      → IfSome image (λ i. IfSome config (λ c. IfSome events (λ e. KeepsFromStarting input_name.Journal i c e fault)))
-      → Keeps old new → Refuses options image config events old new fault
-  unread None config events old new fault keeps same = tt
-  unread (Some i) None events old new fault keeps same = tt
-  unread (Some i) (Some c) None old new fault keeps same = tt
-  unread (Some i) (Some c) (Some e) old new fault keeps same = inl (inl keeps, same)
-
-  pub kept : (start : Start) (image config events old new : Option (List ℕ)) (fault : CommandFault)
-      → Starts start image config events → KeepsFromShrinking options start fault → Keeps old new
-      → Refuses options image config events old new fault
-  kept start None config events old new fault starts keeps same = tt
-  kept start (Some i) None events old new fault starts keeps same = tt
-  kept start (Some i) (Some c) None old new fault starts keeps same = tt
-  kept start (Some i) (Some c) (Some e) old new fault starts keeps same =
-      inl (inr (record { start = start; starts = starts.1; keeps = keeps }), same)
-
-  pub unwritten : (start : Start) (image config events old new : Option (List ℕ)) (error : Error) (text journal : List ℕ)
-      → Starts start image config events → IsShrunk options start journal → AppendsFront old new text
-      → Refuses options image config events old new (Write error)
-  unwritten start None config events old new error text journal starts shrunk written = tt
-  unwritten start (Some i) None events old new error text journal starts shrunk written = tt
-  unwritten start (Some i) (Some c) None old new error text journal starts shrunk written = tt
-  unwritten start (Some i) (Some c) (Some e) old new error text journal starts shrunk written = inr (record {
-    bytes = text;
-    are_meant = (journal, record { start = start; starts = starts.1; shrunk = shrunk });
-    written = written;
-  })
-
-  pub shrinks : (start : Start) (image config events old new : Option (List ℕ)) (text journal : List ℕ)
-      → Starts start image config events → IsShrunk options start journal → Appends old new text
-      → IfSome image (λ i. IfSome config (λ c. IfSome events (λ e. Shrinks options i c e journal old new)))
-  shrinks start None config events old new text journal starts shrunk written = tt
-  shrinks start (Some i) None events old new text journal starts shrunk written = tt
-  shrinks start (Some i) (Some c) None old new text journal starts shrunk written = tt
-  shrinks start (Some i) (Some c) (Some e) old new text journal starts shrunk written = record {
-    shrunk = record { start = start; starts = starts.1; shrunk = shrunk };
-    told = text;
-    written = written;
-  }
+pub ended : (options : ShrinkOptions) (start : Start) (image config events : Option (List ℕ)) (result : Result Told CommandFault)
+    → Starts start image config events
+    → MatchResult result (λ told. IsShrunk options start told.journal.items) (KeepsFromShrinking options start)
+    → IfSome image (λ i. IfSome config (λ c. IfSome events (λ e. MatchResult result
+    (λ told. IsShrunkOf options i c e told.journal.items) (RefusesShrinking options i c e))))
+ended options start None config events result starts told = tt
+ended options start (Some i) None events result starts told = tt
+ended options start (Some i) (Some c) None result starts told = tt
+ended options start (Some i) (Some c) (Some e) (Ok it) starts told = record { start = start; starts = starts.1; shrunk = told }
+ended options start (Some i) (Some c) (Some e) (Err fault) starts keeps =
+    inr (record { start = start; starts = starts.1; keeps = keeps })
 
 -- what is told of the events that are left, or why it isn't
 pub told_shrunk : (options : ShrinkOptions) (start : Start) (wanted : Wanted) (all left : List Event)

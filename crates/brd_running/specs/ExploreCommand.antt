@@ -1,7 +1,6 @@
 -- The command `explore`: what it writes for what it reads, which journal it saves, and how it ends.
 use Rattle.std.specs.Prelude.{◌≡◌, ◌⊎◌, ℕ, ◌<◌, true, false, List, ◌++◌, codes, Option, None, Some, IfSome, Result}
 use Rattle.std.specs.Prelude.{Ok, Err}
-use Rattle.std.specs.Io.KnownBytes.{Appends, Keeps}
 use Rattle.std.specs.declared.io.Error.{Error}
 use Rattle.brd_board.specs.declared.event.Event.{Event}
 use Rattle.brd_board.specs.Board.{BoardState}
@@ -10,7 +9,7 @@ use Rattle.brd_image.specs.declared.building.Loaded.{Loaded}
 use Rattle.brd_inputs.specs.Opening.{OpensPair}
 use Rattle.brd_inputs.specs.Start.{IsLoaded, KeepsFromLoading}
 use Rattle.brd_inputs.specs.declared.fault.CommandFault.{CommandFault}
-use Rattle.brd_inputs.specs.declared.fault.CommandFault.TheVariants.{NoMemory, Schedule, Search, Write, Fails}
+use Rattle.brd_inputs.specs.declared.fault.CommandFault.TheVariants.{NoMemory, Schedule, Search, Fails}
 use Rattle.brd_inputs.specs.declared.inputs.Pair.{Pair}
 use Rattle.brd_inputs.specs.declared.schedule_fault.ScheduleFault.TheVariants.{TooLong}
 use Rattle.brd_journal.specs.Text.{text_of}
@@ -18,7 +17,6 @@ use Rattle.brd_places.specs.declared.left.Left.{Left}
 use Rattle.brd_reach.specs.Reaching.{ReachedSo}
 use Rattle.brd_reach.specs.declared.searching.Reached.{Reached}
 use Rattle.brd_reach.specs.declared.searching.Reached.TheVariants as reached
-use Rattle.brd_report.specs.Output.{WritesFront}
 use Rattle.brd_search.specs.Plans.{IsPlan, KeepsFromPlanning}
 use Rattle.brd_search.specs.Searches.{Answers, IsFewest, IsShortest}
 use Rattle.brd_search.specs.Shown.{shown}
@@ -28,7 +26,7 @@ use Rattle.brd_search.specs.declared.fault.SearchFault.TheVariants.{Unlearned}
 use Rattle.brd_search.specs.declared.options.SearchOptions.{SearchOptions}
 use Rattle.brd_search.specs.declared.plan.Plan.{Plan}
 use Rattle.brd_threads.specs.Processors.{processors_of}
-use Rattle.brd_running.specs.Saving.{Saves, is_over}
+use Rattle.brd_running.specs.Saving.{AreWritten, IsRefused, Saves, is_over}
 
 -- a text begins with these words
 abbrev pub Begins : List ℕ → List ℕ → Type 0
@@ -108,37 +106,26 @@ pub record IsExplored (options : SearchOptions) (image config text : List ℕ) (
   pub loads : IsLoaded image config loaded
   pub told : IsTold options loaded text journal
 
--- a search is told by what was written, and this is its journal
-pub record Explores (options : SearchOptions) (image config : List ℕ) (journal old new : Option (List ℕ)) : Type 0 where
-  pub text : List ℕ
-  pub explored : IsExplored options image config text journal
-  pub written : Appends old new text
-
 -- they make a board, and this keeps a search of it from being told
 pub record IsUntold (options : SearchOptions) (image config : List ℕ) (fault : CommandFault) : Type 0 where
   pub loaded : Loaded
   pub loads : IsLoaded image config loaded
   pub keeps : KeepsFromSearching options loaded fault
 
--- a front of what is told was written, and then writing failed
-abbrev pub IsUnwritten : SearchOptions → List ℕ → List ℕ → Option (List ℕ) → Option (List ℕ) → CommandFault → Type 0
-IsUnwritten options image config old new (Write error) =
-    WritesFront (λ text. (journal : Option (List ℕ)) × IsExplored options image config text journal) old new
-IsUnwritten options image config old new _ = ⊥
+-- why nothing is told: what was read or the options have a fault
+abbrev pub KeepsFromExploring : SearchOptions → List ℕ → List ℕ → CommandFault → Type 0
+KeepsFromExploring options image config fault =
+    KeepsFromLoading image config fault ⊎ IsUntold options image config fault
 
--- Why nothing is told: what was read or the options have a fault, and nothing was written; or writing failed.
-abbrev pub RefusesExploring : SearchOptions → List ℕ → List ℕ → Option (List ℕ) → Option (List ℕ) → CommandFault → Type 0
-RefusesExploring options image config old new fault =
-    ((KeepsFromLoading image config fault ⊎ IsUntold options image config fault) × Keeps old new)
-    ⊎ IsUnwritten options image config old new fault
+-- a search that has found a failure ends so, if its journal was saved and it was told
+abbrev pub failed : Result Unit CommandFault → Result Unit CommandFault → Result Unit CommandFault
+failed (Ok done) (Ok told) = Err Fails
+failed (Ok done) (Err fault) = Err fault
+failed (Err fault) told = Err fault
 
--- a search that has found a failure ends so, if its journal was saved
-abbrev pub failed : Result Unit CommandFault → Result Unit CommandFault
-failed (Ok done) = Err Fails
-failed (Err fault) = Err fault
-
--- A journal that would be written over an input is refused. Else IMAGE is opened first, then CONFIG; where both were,
--- they are read. A file for the journal is created only where a schedule was found that fails, after that is told.
+-- A journal that would be written over an input is refused. Else IMAGE is opened first, then CONFIG; where both were, a
+-- file for the journal is refused that couldn't be created; else they are read. That file is created only where a
+-- schedule was found that fails, and gets the journal before that is told, which is told whatever became of the file.
 pub data ExploreFilesEnd {F R W : Type 0}
     (opened : F → List ℕ → Result R Error → F → Type 0) (created : F → List ℕ → Result W Error → F → Type 0)
     (closed : F → W → F → Type 0) (remaining : R → Option (List ℕ)) (contents : W → Option (List ℕ))
@@ -149,21 +136,23 @@ pub data ExploreFilesEnd {F R W : Type 0}
   not_opened : {fault : CommandFault} → OpensPair opened old image config (Err fault) new →
       result ≡ Err fault → before ≡ after →
       ExploreFilesEnd opened created closed remaining contents old image config options out before after result new
+  no_out : {pair : Pair R} {fault : CommandFault} → OpensPair opened old image config (Ok pair) new →
+      IsRefused created new out fault → result ≡ Err fault → before ≡ after →
+      ExploreFilesEnd opened created closed remaining contents old image config options out before after result new
   refused : {pair : Pair R} {fault : CommandFault} → OpensPair opened old image config (Ok pair) new →
       IfSome (remaining pair.image)
-      (λ file. IfSome (remaining pair.config) (λ statements.
-      RefusesExploring options file statements before after fault)) →
-      result ≡ Err fault →
+      (λ file. IfSome (remaining pair.config) (λ statements. KeepsFromExploring options file statements fault)) →
+      result ≡ Err fault → before ≡ after →
       ExploreFilesEnd opened created closed remaining contents old image config options out before after result new
-  none : {pair : Pair R} → OpensPair opened old image config (Ok pair) new →
+  none : {pair : Pair R} (text : List ℕ) → OpensPair opened old image config (Ok pair) new →
       IfSome (remaining pair.image)
-      (λ file. IfSome (remaining pair.config) (λ statements. Explores options file statements None before after)) →
-      result ≡ Ok tt →
+      (λ file. IfSome (remaining pair.config) (λ statements. IsExplored options file statements text None)) →
+      AreWritten text result before after →
       ExploreFilesEnd opened created closed remaining contents old image config options out before after result new
-  found : {pair : Pair R} {read : F} {journal : List ℕ} {saved : Result Unit CommandFault} →
+  found : {pair : Pair R} {read : F} (text journal : List ℕ) {saved : Result Unit CommandFault} (told : Result Unit CommandFault) →
       OpensPair opened old image config (Ok pair) read →
       IfSome (remaining pair.image)
-      (λ file. IfSome (remaining pair.config) (λ statements.
-      Explores options file statements (Some journal) before after)) →
-      Saves created closed contents read out journal saved new → result ≡ failed saved →
+      (λ file. IfSome (remaining pair.config) (λ statements. IsExplored options file statements text (Some journal))) →
+      Saves created closed contents read out journal saved new → AreWritten text told before after →
+      result ≡ failed saved told →
       ExploreFilesEnd opened created closed remaining contents old image config options out before after result new

@@ -2,6 +2,7 @@
 -- OUT held before and after the command, `old` and `new` what standard output did.
 use Rattle.std.specs.Prelude.{◌≡◌, ◌≢◌, ℕ, List, length, replicate, Option, Result, Ok, Err}
 use Rattle.std.specs.Io.KnownBytes.{Appends, Keeps}
+use Rattle.std.specs.declared.io.Error.{Error}
 use Rattle.brd_journal.specs.Journal.{most_runs}
 use Rattle.brd_journal.specs.Reading.{journal_of}
 use Rattle.brd_journal.specs.Text.{text_of}
@@ -98,3 +99,8 @@ abbrev pub RaceEnds : Result Unit CommandFault → ℕ → List ℕ → List ℕ
 RaceEnds (Ok done) quota image config text out_old out old new = WritesRace quota image config text out_old out old new
 RaceEnds (Err fault) quota image config text out_old out old new =
     RefusesRace fault quota image config text out_old out old new
+
+-- how `race` ends where the journal couldn't be put where it belongs
+abbrev pub unkept : Result Unit CommandFault → Error → Result Unit CommandFault
+unkept (Ok done) error = Err (Write error)
+unkept (Err fault) error = Err fault

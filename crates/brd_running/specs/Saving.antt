@@ -24,10 +24,19 @@ KeepsFromJournal events journal_fault.NoMemory = Unit {0}
 KeepsFromJournal events journal_fault.Full = most_runs < length events
 KeepsFromJournal events (journal_fault.Syntax line) = ⊥
 
--- a journal would be written over the object file or the configuration
+-- a journal would be written over the object file or the configuration: it has the same name
 abbrev pub is_over : Option (List ℕ) → List ℕ → List ℕ → Bool
 is_over None image config = false
 is_over (Some name) image config = bytes_eq name image || bytes_eq name config
+
+-- The file that is named couldn't be created: the fault has its name, and the files are as they were.
+pub record IsRefused {F W : Type 0} (created : F → List ℕ → Result W Error → F → Type 0) (files : F)
+    (out : Option (List ℕ)) (fault : CommandFault) : Type 0 where
+  pub name : List ℕ
+  pub error : Error
+  pub named : out ≡ Some name
+  pub not_created : created files name (Err error) files
+  pub is : IsOfOpen name error fault
 
 -- bytes were written, or writing failed after a front of them
 abbrev pub AreWritten : List ℕ → Result Unit CommandFault → Option (List ℕ) → Option (List ℕ) → Type 0
@@ -35,8 +44,8 @@ AreWritten bytes (Ok done) old new = Appends old new bytes
 AreWritten bytes (Err (Write error)) old new = AppendsFront old new bytes
 AreWritten bytes (Err _) old new = ⊥
 
--- A journal goes to the file that is named, if one is: that is created or emptied, gets the journal, and is let go. The
--- fault of a file that couldn't be created has its name.
+-- A journal goes to the file that is named, if one is: that is created, gets the journal, and is let go. The fault of a
+-- file that couldn't be created has its name.
 pub data Saves {F W : Type 0} (created : F → List ℕ → Result W Error → F → Type 0) (closed : F → W → F → Type 0)
     (contents : W → Option (List ℕ)) (old : F) (out : Option (List ℕ)) (journal : List ℕ)
     (result : Result Unit CommandFault) (new : F) : Type 0 where

@@ -1,6 +1,5 @@
 -- The command `shrink`: what it writes for what it reads, which journal it saves, and how it ends.
 use Rattle.std.specs.Prelude.{◌≡◌, ◌⊎◌, ℕ, ◌<◌, ◌≤◌, true, false, List, length, Option, IfSome, Result, Ok, Err}
-use Rattle.std.specs.Io.KnownBytes.{Appends, Keeps}
 use Rattle.std.specs.declared.io.Error.{Error}
 use Rattle.brd_board.specs.declared.event.Event.{Event}
 use Rattle.brd_explore.specs.Shrinking.{is_failing, IsLeast}
@@ -8,13 +7,12 @@ use Rattle.brd_explore.specs.declared.wanted.Wanted.{Wanted}
 use Rattle.brd_inputs.specs.Opening.{OpensInputs}
 use Rattle.brd_inputs.specs.Start.{IsStart, KeepsFromStarting}
 use Rattle.brd_inputs.specs.declared.fault.CommandFault.{CommandFault}
-use Rattle.brd_inputs.specs.declared.fault.CommandFault.TheVariants.{NoMemory, Passes, Search, Write}
+use Rattle.brd_inputs.specs.declared.fault.CommandFault.TheVariants.{NoMemory, Passes, Search}
 use Rattle.brd_inputs.specs.declared.input_name.InputName.TheVariants as input_name
 use Rattle.brd_inputs.specs.declared.inputs.Inputs.{Inputs}
 use Rattle.brd_inputs.specs.declared.start.Start.{Start}
 use Rattle.brd_journal.specs.Journal.{JournalState}
 use Rattle.brd_journal.specs.Text.{text_of}
-use Rattle.brd_report.specs.Output.{WritesFront}
 use Rattle.brd_search.specs.Plans.{IsWanted, KeepsFromWanting}
 use Rattle.brd_search.specs.Shown.{shown}
 use Rattle.brd_search.specs.declared.fault.SearchFault.{SearchFault}
@@ -22,7 +20,7 @@ use Rattle.brd_search.specs.declared.fault.SearchFault.TheVariants as search_fau
 use Rattle.brd_shrink.specs.Settled.{AreSome, IsSettled}
 use Rattle.brd_shrink.specs.Turns.{switches}
 use Rattle.brd_threads.specs.Processors.{processors_of}
-use Rattle.brd_running.specs.Saving.{Saves, is_over}
+use Rattle.brd_running.specs.Saving.{AreWritten, IsRefused, Saves, is_over}
 use Rattle.brd_running.specs.declared.shrink_command.ShrinkOptions.{ShrinkOptions}
 
 -- What the options look for on a board.
@@ -82,30 +80,20 @@ pub record IsKept (options : ShrinkOptions) (image config events : List ℕ) (fa
   pub starts : IsStart image config events start
   pub keeps : KeepsFromShrinking options start fault
 
--- what is left of a journal is told by what was written, and this is its text
-pub record Shrinks (options : ShrinkOptions) (image config events journal : List ℕ) (old new : Option (List ℕ)) : Type 0
-  where
-    pub shrunk : IsShrunkOf options image config events journal
-    pub told : List ℕ
-    pub written : Appends old new told
+-- why nothing is told: what was read or the options have a fault, or the journal passes
+abbrev pub RefusesShrinking : ShrinkOptions → List ℕ → List ℕ → List ℕ → CommandFault → Type 0
+RefusesShrinking options image config events fault =
+    KeepsFromStarting input_name.Journal image config events fault ⊎ IsKept options image config events fault
 
--- a journal had been made shorter, and then writing failed
-abbrev pub IsUnwritten : ShrinkOptions → List ℕ → List ℕ → List ℕ → Option (List ℕ) → Option (List ℕ) → CommandFault → Type 0
-IsUnwritten options image config events old new (Write error) =
-    WritesFront (λ told. (journal : List ℕ) × IsShrunkOf options image config events journal) old new
-IsUnwritten options image config events old new _ = ⊥
-
--- Why nothing is told: what was read or the options have a fault, or the journal passes, and nothing was written; or
--- writing failed.
-abbrev pub RefusesShrinking : ShrinkOptions → List ℕ → List ℕ → List ℕ → Option (List ℕ) → Option (List ℕ) → CommandFault
-    → Type 0
-RefusesShrinking options image config events old new fault =
-    ((KeepsFromStarting input_name.Journal image config events fault ⊎ IsKept options image config events fault)
-    × Keeps old new)
-    ⊎ IsUnwritten options image config events old new fault
+-- how both of two ended: with the fault of the first, or that of the second
+abbrev pub both : Result Unit CommandFault → Result Unit CommandFault → Result Unit CommandFault
+both (Ok done) second = second
+both (Err fault) second = Err fault
 
 -- A journal that would be written over the object file or the configuration is refused. Else IMAGE is opened first,
--- then CONFIG, then JOURNAL; where all were, they are read. A file for what is left is created only after that is told.
+-- then CONFIG, then JOURNAL; where all were, a file for what is left is refused that couldn't be created; else they are
+-- read. That file is created only where something is left, and gets its journal before that is told, which is told
+-- whatever became of the file.
 pub data ShrinkFilesEnd {F R W : Type 0}
     (opened : F → List ℕ → Result R Error → F → Type 0) (created : F → List ℕ → Result W Error → F → Type 0)
     (closed : F → W → F → Type 0) (remaining : R → Option (List ℕ)) (contents : W → Option (List ℕ))
@@ -116,15 +104,20 @@ pub data ShrinkFilesEnd {F R W : Type 0}
   not_opened : {fault : CommandFault} → OpensInputs opened old image config journal (Err fault) new →
       result ≡ Err fault → before ≡ after →
       ShrinkFilesEnd opened created closed remaining contents old image config journal options out before after result new
+  no_out : {inputs : Inputs R} {fault : CommandFault} → OpensInputs opened old image config journal (Ok inputs) new →
+      IsRefused created new out fault → result ≡ Err fault → before ≡ after →
+      ShrinkFilesEnd opened created closed remaining contents old image config journal options out before after result new
   refused : {inputs : Inputs R} {fault : CommandFault} → OpensInputs opened old image config journal (Ok inputs) new →
       IfSome (remaining inputs.image)
       (λ file. IfSome (remaining inputs.config) (λ statements. IfSome (remaining inputs.last) (λ events.
-      RefusesShrinking options file statements events before after fault))) →
-      result ≡ Err fault →
+      RefusesShrinking options file statements events fault))) →
+      result ≡ Err fault → before ≡ after →
       ShrinkFilesEnd opened created closed remaining contents old image config journal options out before after result new
-  shrunk : {inputs : Inputs R} {read : F} {left : List ℕ} → OpensInputs opened old image config journal (Ok inputs) read →
+  shrunk : {inputs : Inputs R} {read : F} (text left : List ℕ) {saved : Result Unit CommandFault} (told : Result Unit CommandFault) →
+      OpensInputs opened old image config journal (Ok inputs) read →
       IfSome (remaining inputs.image)
       (λ file. IfSome (remaining inputs.config) (λ statements. IfSome (remaining inputs.last) (λ events.
-      Shrinks options file statements events left before after))) →
-      Saves created closed contents read out left result new →
+      IsShrunkOf options file statements events left))) →
+      Saves created closed contents read out left saved new → AreWritten text told before after →
+      result ≡ both saved told →
       ShrinkFilesEnd opened created closed remaining contents old image config journal options out before after result new

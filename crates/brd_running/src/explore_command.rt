@@ -1,14 +1,14 @@
 //! The command `explore`.
 
 ghost use Rattle.std.specs.Prelude.{◌≡◌, ◌++◌, codes, option_map, IfOk, IfSome, MatchResult, None, Some};
-ghost use Rattle.brd_running.specs.ExploreCommand.{Explores, ExploreFilesEnd, IsTold, KeepsFromSearching};
-ghost use Rattle.brd_running.specs.ExploreCommand.{Begins, RefusesExploring, Tells};
+ghost use Rattle.brd_running.specs.ExploreCommand.{ExploreFilesEnd, IsExplored, IsTold, KeepsFromSearching};
+ghost use Rattle.brd_running.specs.ExploreCommand.{Begins, KeepsFromExploring, Tells, failed};
 ghost use Rattle.brd_running.specs.ExploreCommand.{IsReached, IsUnknown, IsUntoldOfAll, left_by};
 ghost use Rattle.brd_running.specs.Saving.{IsOfJournal};
 ghost use Rattle.brd_search.specs.Shown.{shown};
 ghost use Rattle.brd_board.specs.Board.{BoardState};
 
-use crate::saving::{is_over, journal_text, save};
+use crate::saving::{is_over, journal_text, save, tell, try_out};
 use brd_base::NoMemory;
 use brd_board::{Board, Event};
 use brd_explore::{Bounds, Counts, Watch};
@@ -17,7 +17,6 @@ use brd_mem::Symbol;
 use brd_places::Left;
 use brd_progress::Progress;
 use brd_reach::{Reached, Unknown, reach};
-use brd_report::write_whole;
 use brd_search::{
     Plan, SearchFault, SearchOptions, plan_of, put_all_hold, put_found, put_none, search,
     shown_events,
@@ -37,48 +36,38 @@ const ALL_HOLD: &[u8] = b"none ";
 
 /// What is told of a search.
 #[derive(Drop)]
-struct Told {
+pub struct Told {
     /// What it came to, in words.
-    text: Vec<u8>,
+    pub text: Vec<u8>,
     /// The text of the journal after which a board fails, if there is one.
-    journal: Option<Vec<u8>>,
+    pub journal: Option<Vec<u8>>,
 }
 
 /// Reads an object file and a configuration to their ends, in this order, and searches the schedules of the board that
-/// they make for one that fails. Writes what that came to, and answers the text of the journal of one that fails, if
-/// there is one. Nothing is written where what was read or the options have a fault. How many schedules were tried is
-/// told on the way.
-pub fn explore<R: Read, W: Write, P: Progress>(
+/// they make for one that fails. Answers what that came to, in words, and the text of the journal of one that fails, if
+/// there is one. How many schedules were tried is told on the way.
+pub fn explore<R: Read, P: Progress>(
     alloc: Global,
     pair: &mut Pair<R>,
     options: SearchOptions<'_>,
-    writer: &mut W,
     progress: &mut P,
-) -> Result<Option<Vec<u8>>, CommandFault>
+) -> Result<Told, CommandFault>
     ensures { IfSome (R.remaining pair.old.image) (λ file. IfSome (R.remaining pair.old.config) (λ statements.
         MatchResult result
-        (λ journal. Explores options.entry file statements (option_map (λ text. text.items) journal)
-        (W.contents writer.old) (W.contents writer.new))
-        (RefusesExploring options.entry file statements (W.contents writer.old) (W.contents writer.new)))) }
+        (λ told. IsExplored options.entry file statements told.text.items
+        (option_map (λ text. text.items) told.journal))
+        (KeepsFromExploring options.entry file statements))) }
 {
     let loaded = match read_board(alloc, pair) {
         Ok(loaded) => loaded,
         Err(fault) => return Err(fault),
     };
-    let told = match told_of(alloc, &loaded, options, progress) {
-        Ok(told) => told,
-        Err(fault) => return Err(fault),
-    };
-    progress.hide();
-    match write_whole(writer, &told.text) {
-        Ok(()) => Ok(told.journal),
-        Err(error) => Err(CommandFault::Write(error)),
-    }
+    told_of(alloc, &loaded, options, progress)
 }
 
-/// Does `explore` on its files: IMAGE is opened, then CONFIG, and both are read. OUT may be neither. If a schedule was
-/// found that fails, OUT, if it is named, is created or emptied after that is told, and gets the journal; the command
-/// then ends as one that has found a failure does.
+/// Does `explore` on its files: IMAGE is opened, then CONFIG, and both are read. OUT may be neither, and is refused before
+/// the search where it couldn't be created. If a schedule was found that fails, OUT, if it is named, gets the journal, whole
+/// or not at all, before that is told; the command then ends as one that has found a failure does.
 pub fn explore_files<F: Files, W: Write, P: Progress>(
     alloc: Global,
     files: &mut F,
@@ -100,13 +89,34 @@ pub fn explore_files<F: Files, W: Write, P: Progress>(
         Ok(pair) => pair,
         Err(fault) => return Err(fault),
     };
-    let journal = match explore(alloc, &mut pair, options, output, progress) {
-        Ok(Some(journal)) => journal,
-        Ok(None) => return Ok(()),
+    match try_out(alloc, files, out, image, config) {
+        Ok(()) => {}
+        Err(fault) => return Err(fault),
+    }
+    let Told { text, journal } = match explore(alloc, &mut pair, options, progress) {
+        Ok(told) => told,
         Err(fault) => return Err(fault),
     };
-    match save(alloc, files, out, &journal) {
-        Ok(()) => Err(CommandFault::Fails),
+    progress.hide();
+    let Some(journal) = journal else {
+        return tell(output, &text);
+    };
+    let saved = save(alloc, files, out, &journal);
+    failed(saved, tell(output, &text))
+}
+
+/// How a search ends that has found a failure: as saving its journal did, or telling it; else as one that has found one.
+fn failed(
+    saved: Result<(), CommandFault>,
+    told: Result<(), CommandFault>,
+) -> Result<(), CommandFault>
+    ensures { result ≡ failed saved told }
+{
+    match saved {
+        Ok(()) => match told {
+            Ok(()) => Err(CommandFault::Fails),
+            Err(fault) => Err(fault),
+        },
         Err(fault) => Err(fault),
     }
 }

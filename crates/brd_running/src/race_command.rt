@@ -6,7 +6,7 @@ ghost use Rattle.brd_journal.specs.Runs.{runs_of};
 ghost use Rattle.brd_ledgers.specs.Blanks.{AreOf};
 ghost use Rattle.brd_threads.specs.Processors.{processors_of};
 ghost use Rattle.brd_running.specs.Files.{RaceFilesEnd};
-ghost use Rattle.brd_running.specs.RaceCommand.{IsShown, KeepsFromRacing, RaceEnds, ShowsStation};
+ghost use Rattle.brd_running.specs.RaceCommand.{IsShown, KeepsFromRacing, RaceEnds, ShowsStation, unkept};
 
 use crate::meter::Meter;
 use crate::turns::Turns;
@@ -17,7 +17,7 @@ use brd_progress::Progress;
 use brd_report::{report, write_whole};
 use brd_threads::{Blanks, Race, Station, processors};
 use std::alloc::Global;
-use std::io::{Read, Write};
+use std::io::{self, Read, Write};
 use std::marker::Brand;
 use std::sync::Wait;
 use std::thread::Threads;
@@ -83,7 +83,7 @@ pub fn race<
 }
 
 /// Does `race` on its files: IMAGE is opened, then CONFIG, then SCRIPT, then OUT is created or emptied, and then the
-/// three are read. The report is written, and OUT is let go as `race` left it.
+/// three are read. The report is written, and OUT is let go as `race` left it: it gets the journal whole or not at all.
 pub fn race_files<F: Files, W: Write, P: Progress + Send, R: Threads + Wait + Sync>(
     rt: &R,
     alloc: Global,
@@ -104,7 +104,7 @@ pub fn race_files<F: Files, W: Write, P: Progress + Send, R: Threads + Wait + Sy
         Ok(inputs) => inputs,
         Err(fault) => return Err(fault),
     };
-    let mut journal = match files.create(out) {
+    let mut journal = match files.renew(out) {
         Ok(journal) => journal,
         Err(error) => return Err(CommandFault::of_open(alloc, out, error)),
     };
@@ -117,8 +117,20 @@ pub fn race_files<F: Files, W: Write, P: Progress + Send, R: Threads + Wait + Sy
         output,
         progress,
     );
-    files.close(journal);
-    ended
+    match files.keep(journal) {
+        Ok(()) => ended,
+        Err(error) => unkept(ended, error),
+    }
+}
+
+/// How `race` ends where the journal couldn't be put where it belongs.
+fn unkept(ended: Result<(), CommandFault>, error: io::Error) -> Result<(), CommandFault>
+    ensures { result ≡ unkept ended error }
+{
+    match ended {
+        Ok(()) => Err(CommandFault::Write(error)),
+        Err(fault) => Err(fault),
+    }
 }
 
 /// Does `race` on files that are open, with ledgers of its own.

@@ -1,8 +1,8 @@
 //! Journals that a search has found: their texts, and the files that get them.
 
-ghost use Rattle.std.specs.Prelude.{◌≡◌, MatchResult, option_map};
+ghost use Rattle.std.specs.Prelude.{◌≡◌, IfErr, MatchResult, option_map};
 ghost use Rattle.brd_journal.specs.Text.{text_of};
-ghost use Rattle.brd_running.specs.Saving.{IsOfJournal, KeepsFromJournal, Saves, is_over};
+ghost use Rattle.brd_running.specs.Saving.{AreWritten, IsOfJournal, IsRefused, KeepsFromJournal, Saves, is_over};
 
 use brd_board::Event;
 use brd_inputs::{CommandFault, Files, ScheduleFault};
@@ -10,6 +10,7 @@ use brd_journal::{Journal, JournalFault, MOST_RUNS};
 use brd_report::write_whole;
 use brd_word::Order;
 use std::alloc::Global;
+use std::io::Write;
 
 /// The text of the journal of these events, for boards of this byte order.
 pub fn journal_text(alloc: Global, order: Order, events: &[Event]) -> Result<Vec<u8>, CommandFault>
@@ -53,7 +54,27 @@ pub fn is_over(out: Option<&str>, image: &str, config: &str) -> bool
     }
 }
 
-/// Writes a journal to the file that is named, if one is: it is created or emptied, and let go afterwards.
+/// Refuses a file for a journal, if one is named, that couldn't be created now, or that is the object file or the
+/// configuration under another name.
+pub fn try_out<F: Files>(
+    alloc: Global,
+    files: &F,
+    out: Option<&str>,
+    image: &str,
+    config: &str,
+) -> Result<(), CommandFault>
+    ensures { IfErr result (IsRefused F.created files.now (option_map (λ name. name.now) out.entry)) }
+{
+    let Some(name) = out else {
+        return Ok(());
+    };
+    match files.try_create(name, image, config) {
+        Ok(()) => Ok(()),
+        Err(error) => Err(CommandFault::of_open(alloc, name, error)),
+    }
+}
+
+/// Writes a journal to the file that is named, if one is, whole or not at all.
 pub fn save<F: Files>(
     alloc: Global,
     files: &mut F,
@@ -66,13 +87,27 @@ pub fn save<F: Files>(
     let Some(name) = out else {
         return Ok(());
     };
-    let mut writer = match files.create(name) {
+    let mut writer = match files.begin(name) {
         Ok(writer) => writer,
         Err(error) => return Err(CommandFault::of_open(alloc, name, error)),
     };
-    let written = write_whole(&mut writer, journal);
-    files.close(writer);
-    match written {
+    match tell(&mut writer, journal) {
+        Ok(()) => match files.keep(writer) {
+            Ok(()) => Ok(()),
+            Err(error) => Err(CommandFault::Write(error)),
+        },
+        Err(fault) => {
+            files.close(writer);
+            Err(fault)
+        }
+    }
+}
+
+/// Writes bytes whole.
+pub fn tell<W: Write>(writer: &mut W, bytes: &[u8]) -> Result<(), CommandFault>
+    ensures { AreWritten bytes.now result (W.contents writer.old) (W.contents writer.new) }
+{
+    match write_whole(writer, bytes) {
         Ok(()) => Ok(()),
         Err(error) => Err(CommandFault::Write(error)),
     }

@@ -5,15 +5,14 @@ ghost use Rattle.brd_journal.specs.Text.{text_of};
 ghost use Rattle.brd_search.specs.Shown.{shown};
 ghost use Rattle.brd_running.specs.Saving.{IsOfJournal};
 ghost use Rattle.brd_running.specs.ShrinkCommand.{IsShrunk, KeepsFromShrinking, RefusesShrinking, ShrinkFilesEnd};
-ghost use Rattle.brd_running.specs.ShrinkCommand.{AreEventsOf, IsOfLength, Shrinks};
+ghost use Rattle.brd_running.specs.ShrinkCommand.{AreEventsOf, IsOfLength, IsShrunkOf, both};
 
-use crate::saving::{is_over, journal_text, save};
+use crate::saving::{is_over, journal_text, save, tell, try_out};
 use brd_base::NoMemory;
 use brd_board::Event;
 use brd_explore::{Wanted, fails};
 use brd_inputs::{CommandFault, Files, Inputs, Start, open_inputs, read_start};
 use brd_journal::Journal;
-use brd_report::write_whole;
 use brd_search::{Looks, SearchFault, put_found, shown_events, wanted_of};
 use brd_shrink::{shrink as shrunk_events, switches};
 use brd_threads::processors;
@@ -34,45 +33,37 @@ pub struct ShrinkOptions<'a> {
 
 /// What is told of a journal that was made shorter.
 #[derive(Drop)]
-struct Told {
+pub struct Told {
     /// How many events and switches are left, and what fails, in words.
-    text: Vec<u8>,
+    pub text: Vec<u8>,
     /// The text of the journal that is left.
-    journal: Vec<u8>,
+    pub journal: Vec<u8>,
 }
 
 /// Reads an object file, a configuration and a journal to their ends, in this order, and leaves out events of the
-/// journal, and moves turns of its processors together, as long as what is left fails. Writes how many events and
-/// switches are left and what fails, and answers the text of the journal of what is left. Nothing is written where what
-/// was read or the options have a fault, or where the journal doesn't fail.
-pub fn shrink<R: Read, W: Write>(
+/// journal, and moves turns of its processors together, as long as what is left fails. Answers how many events and
+/// switches are left and what fails, in words, and the text of the journal of what is left.
+pub fn shrink<R: Read>(
     alloc: Global,
     inputs: &mut Inputs<R>,
     options: ShrinkOptions<'_>,
-    writer: &mut W,
-) -> Result<Vec<u8>, CommandFault>
+) -> Result<Told, CommandFault>
     ensures { IfSome (R.remaining inputs.old.image) (λ file. IfSome (R.remaining inputs.old.config) (λ statements.
         IfSome (R.remaining inputs.old.last) (λ events.
         MatchResult result
-        (λ left. Shrinks options.entry file statements events left.items (W.contents writer.old) (W.contents writer.new))
-        (RefusesShrinking options.entry file statements events (W.contents writer.old) (W.contents writer.new))))) }
+        (λ told. IsShrunkOf options.entry file statements events told.journal.items)
+        (RefusesShrinking options.entry file statements events)))) }
 {
     let start = match read_start(alloc, inputs) {
         Ok(start) => start,
         Err(fault) => return Err(fault),
     };
-    let told = match told_of(alloc, &start, options) {
-        Ok(told) => told,
-        Err(fault) => return Err(fault),
-    };
-    match write_whole(writer, &told.text) {
-        Ok(()) => Ok(told.journal),
-        Err(error) => Err(CommandFault::Write(error)),
-    }
+    told_of(alloc, &start, options)
 }
 
-/// Does `shrink` on its files: IMAGE is opened, then CONFIG, then JOURNAL, and all are read. OUT, if it is named, is
-/// created or emptied after what is left is told, and gets its journal.
+/// Does `shrink` on its files: IMAGE is opened, then CONFIG, then JOURNAL, and all are read. OUT may be neither of the
+/// first two, and is refused before that where it couldn't be created. If it is named, it gets the journal of what is left,
+/// whole or not at all, before that is told.
 pub fn shrink_files<F: Files, W: Write>(
     alloc: Global,
     files: &mut F,
@@ -94,8 +85,27 @@ pub fn shrink_files<F: Files, W: Write>(
         Ok(inputs) => inputs,
         Err(fault) => return Err(fault),
     };
-    match shrink(alloc, &mut inputs, options, output) {
-        Ok(left) => save(alloc, files, out, &left),
+    match try_out(alloc, files, out, image, config) {
+        Ok(()) => {}
+        Err(fault) => return Err(fault),
+    }
+    let Told { text, journal } = match shrink(alloc, &mut inputs, options) {
+        Ok(told) => told,
+        Err(fault) => return Err(fault),
+    };
+    let saved = save(alloc, files, out, &journal);
+    both_ended(saved, tell(output, &text))
+}
+
+/// How both of two ended: with the fault of the first, or that of the second.
+fn both_ended(
+    first: Result<(), CommandFault>,
+    second: Result<(), CommandFault>,
+) -> Result<(), CommandFault>
+    ensures { result ≡ both first second }
+{
+    match first {
+        Ok(()) => second,
         Err(fault) => Err(fault),
     }
 }
