@@ -23,12 +23,12 @@ raise_at (Some line) None = None
 raise_at (Some line) (Some zero) = None
 raise_at (Some line) (Some (suc before)) = Some (record { line = line; at = suc before })
 
--- The raise that a piece says by `LINE@EVENT`: LINE is a plain decimal up to 255, EVENT one from 1 to 1,000,000.
+-- The raise that a piece says by `LINE@EVENT`: LINE is a plain decimal up to 255, EVENT one from 1 to 4,294,967,295.
 unfoldable pub raise_of : List ℕ → Option Raise
 raise_of piece =
     if nat_lt (position_or_len is_at_sign piece) (length piece)
     then raise_at (plain_decimal_of (before_first is_at_sign piece) 255)
-    (plain_decimal_of (after_first is_at_sign piece) 1000000)
+    (plain_decimal_of (after_first is_at_sign piece) 4294967295)
     else None
 
 -- A text says these raises: each of its pieces says one, in this order, and no two have the same event.

@@ -16,7 +16,7 @@ use std::alloc::Global;
 const MOST_LINE: u64 = 255;
 
 /// The greatest number of an event.
-const MOST_EVENTS: u64 = 1_000_000;
+const MOST_EVENTS: u64 = 4_294_967_295;
 
 /// The greatest weight.
 const MOST_WEIGHT: u64 = 1_000_000;
