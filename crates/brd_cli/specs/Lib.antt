@@ -3,4 +3,5 @@ pub mod Laws
 pub mod Program
 pub mod Requests
 pub mod Said
+pub mod StandardInput
 pub mod Usage

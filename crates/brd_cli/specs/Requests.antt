@@ -21,7 +21,7 @@ use Rattle.brd_search.specs.declared.options.SearchOptions.{SearchOptions}
 use Rattle.brd_search.specs.declared.options.Sizes.{Sizes}
 use Rattle.brd_try.specs.declared.options.TryOptions.{TryOptions}
 use Rattle.brd_cli.specs.declared.end.EarlyEnd.{EarlyEnd}
-use Rattle.brd_cli.specs.declared.end.EarlyEnd.TheVariants.{Data, Fault, Usage}
+use Rattle.brd_cli.specs.declared.end.EarlyEnd.TheVariants.{Data, Fault, Input, Usage}
 use Rattle.brd_cli.specs.declared.request.Line.{Line}
 use Rattle.brd_cli.specs.Usage.{board, inputs, pair, race_files, source_and_out}
 
@@ -235,6 +235,7 @@ IsAnswer words (Ok asked) = (fault_of board words ≡ []) × IsAsked (subcommand
     × (map (λ text. text.now) asked.texts.items ≡ data_in (subcommand_of board words))
 IsAnswer words (Err (Fault fault)) = fault ≡ NoMemory
 IsAnswer words (Err (Data fault)) = ⊥
+IsAnswer words (Err (Input fault)) = ⊥
 IsAnswer words (Err (Usage error)) =
     IsAmong (kind_of error) (fault_of board words)
     ⊎ ((kind_of error ≡ MissingSubcommand) × IsAsked (subcommand_of board words) None)

@@ -14,6 +14,10 @@ needed name = record (new_rule name) { required = true; action = Some Set }
 abbrev pub number : Text → Rule
 number name = record (needed name) { parser = Some (Signed (pos 0) (pos 1000000)) }
 
+-- an argument that is a number of 32 bits
+abbrev pub needed_count : Text → Rule
+needed_count name = record (needed name) { parser = Some (Signed (pos 0) (pos 4294967295)) }
+
 -- an option with one value, and one without
 abbrev pub valued : Text → Rule
 valued name = record (new_rule name) { long = Some name; action = Some Set; value_names = 1 }
@@ -107,7 +111,7 @@ trace = command_with (codes "trace")
 
 abbrev pub journal : App
 journal = command_with (codes "journal")
-    (number (codes "CPUS") ∷ number (codes "EVENTS") ∷ count (codes "STEPS") (codes "turn")
+    (number (codes "CPUS") ∷ needed_count (codes "EVENTS") ∷ count (codes "STEPS") (codes "turn")
     ∷ count (codes "SEED") (codes "random") ∷ count (codes "CHANCE") (codes "switch")
     ∷ option (codes "WEIGHTS") (codes "weights") ∷ count (codes "CHANGES") (codes "pct")
     ∷ count (codes "INTERVAL") (codes "tick-every") ∷ option (codes "RAISES") (codes "raise")

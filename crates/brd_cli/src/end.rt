@@ -4,6 +4,7 @@ ghost use Rattle.std.specs.Prelude.{◌≡◌};
 ghost use Rattle.std.specs.Process.{exit_status};
 ghost use Rattle.brd_cli.specs.End.{status_of_usage, status_of_end, IsEarlyEndOf, IsWantOfMemory};
 
+use crate::standard_input::InputFault;
 use brd_base::NoMemory;
 use brd_data::DataFault;
 use brd_inputs::CommandFault;
@@ -17,6 +18,8 @@ pub enum EarlyEnd {
     Fault(CommandFault),
     /// Its data has a fault.
     Data(DataFault),
+    /// It asks for more of standard input than can be had.
+    Input(InputFault),
     /// The command line is wrong, or asks for help.
     Usage(clap::Error),
 }
@@ -58,6 +61,7 @@ pub fn exit_code(end: &Result<(), EarlyEnd>) -> ExitCode
         Ok(()) => 0,
         Err(EarlyEnd::Fault(fault)) => fault.status(),
         Err(EarlyEnd::Data(fault)) => fault.status(),
+        Err(EarlyEnd::Input(_)) => 2,
         Err(EarlyEnd::Usage(error)) => usage_status(error.kind()),
     };
     ExitCode::from(status)

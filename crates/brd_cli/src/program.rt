@@ -6,6 +6,7 @@ ghost use Rattle.brd_cli.specs.Program.{ProgramEnds};
 
 use crate::end::EarlyEnd;
 use crate::request::asked;
+use crate::standard_input::input_fault;
 use brd_command::{Files, Progress};
 use brd_data::{DataFault, Laid, perform_with_data};
 use std::alloc::Global;
@@ -15,7 +16,7 @@ use std::sync::Wait;
 use std::thread::Threads;
 
 /// Does what the words of a command line ask for, of which the first is the program's name, on files, standard input
-/// and standard output. Nothing is touched where they are refused, or ask for help. How far a long command is, is told
+/// and standard output. Nothing is touched where they are refused, or ask for help or for standard input twice. How far a long command is, is told
 /// on the way.
 pub fn carry_out<
     S: AsStr,
@@ -40,6 +41,9 @@ pub fn carry_out<
         Ok(asked) => asked,
         Err(stop) => return Err(stop),
     };
+    if let Some(fault) = input_fault(asked.request, &asked.texts) {
+        return Err(EarlyEnd::Input(fault));
+    }
     match perform_with_data(
         rt,
         alloc,

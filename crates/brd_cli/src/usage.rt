@@ -383,7 +383,11 @@ fn journal_command<'a>(alloc: Global) -> Result<Command<'a>, NoMemory>
         .about("Writes a journal to standard output: in turns, or drawn at random")
         .after_help(JOURNAL)
         .arg(number(alloc, "CPUS", "How many processors take steps, 1 to 8"))?
-        .arg(number(alloc, "EVENTS", "How many events there are, 0 to 1,000,000"))?
+        .arg(needed_count(
+            alloc,
+            "EVENTS",
+            "How many events there are, 0 to 4,294,967,295",
+        ))?
         .arg(count(
             alloc,
             "STEPS",
@@ -654,6 +658,14 @@ fn number<'a>(alloc: Global, name: &'a str, help: &'a str) -> Arg<'a>
     ensures own { result.global ≡ false }
 {
     needed(alloc, name, help).value_parser(clap::value_parser!(u32).range(0..=1_000_000))
+}
+
+/// An argument that is a number of 32 bits, and has to be given.
+fn needed_count<'a>(alloc: Global, name: &'a str, help: &'a str) -> Arg<'a>
+    ensures rule { rule_of result ≡ usage.needed_count name.entry.now }
+    ensures own { result.global ≡ false }
+{
+    needed(alloc, name, help).value_parser(clap::value_parser!(u32).range(0..=4_294_967_295))
 }
 
 /// An option whose value is a number of 32 bits.

@@ -8,7 +8,7 @@ use Rattle.brd_cli.specs.End.{IsEarlyEndOf}
 use Rattle.brd_cli.specs.Requests.{IsAnswer, IsAsked, data_in}
 use Rattle.brd_cli.specs.Usage.{board}
 use Rattle.brd_cli.specs.declared.end.EarlyEnd.{EarlyEnd}
-use Rattle.brd_cli.specs.declared.end.EarlyEnd.TheVariants.{Data, Fault, Usage}
+use Rattle.brd_cli.specs.declared.end.EarlyEnd.TheVariants.{Data, Fault, Input, Usage}
 use Rattle.brd_cli.specs.declared.request.Line.{Line}
 use Rattle.brd_cli.proofs.request.asked_of.Goals as goal
 
@@ -38,6 +38,7 @@ refused : (app : App) (words : List Text) (error : Error) (result : Result Line 
     → (is_simple_and_free app ≡ true → HasKind (fault_of app words) error) → IsErrAnd result (IsEarlyEndOf error) → IsAnswer words result
 refused app words error (Ok it) is has stop = absurd stop
 refused app words error (Err (Data fault)) is has stop = absurd stop
+refused app words error (Err (Input fault)) is has stop = absurd stop
 refused app words error (Err (Fault fault)) is has stop = stop.1
 refused app words error (Err (Usage e)) is has stop =
     elim (has (ap is_simple_and_free is ∙ board_is_simple.0)) [
@@ -53,6 +54,7 @@ missed : {X : Type 0} (app : App) (words : List Text) (found : Option (Text × L
     → kind_of error ≡ MissingSubcommand → IsEarlyEndOf error stop → IsAnswer words (Err stop)
 missed app words found error (Fault fault) is finds asked missing stop = stop.1
 missed app words found error (Data fault) is finds asked missing stop = absurd stop
+missed app words found error (Input fault) is finds asked missing stop = absurd stop
 missed app words found error (Usage e) is finds asked missing stop = inr (
   subst (λ (x : Error). kind_of x ≡ MissingSubcommand) (sym stop.1) missing,
   subst (λ (it : Option (Text × List Row)). IsAsked it None)

@@ -6,7 +6,7 @@ pub returns : goal.returns
 returns c = λ old new adds.
     let none : app_of c.after_help.result ≡ new_app (codes "journal") = rw c.after_help.ensures (rw c.about.ensures c.new.ensures.app) in
     let with_1 = c.in_ok-arg.ensures.shape c.number.ensures.own ∙ ap₂ with_rule none c.number.ensures.rule in
-    let with_2 = c.in_ok-arg-2.ensures.shape c.number-2.ensures.own ∙ ap₂ with_rule with_1 c.number-2.ensures.rule in
+    let with_2 = c.in_ok-arg-2.ensures.shape c.needed_count.ensures.own ∙ ap₂ with_rule with_1 c.needed_count.ensures.rule in
     let with_3 = c.in_ok-arg-3.ensures.shape c.count.ensures.own ∙ ap₂ with_rule with_2 c.count.ensures.rule in
     let with_4 = c.in_ok-arg-4.ensures.shape c.count-2.ensures.own ∙ ap₂ with_rule with_3 c.count-2.ensures.rule in
     let with_5 = c.in_ok-arg-5.ensures.shape c.count-3.ensures.own ∙ ap₂ with_rule with_4 c.count-3.ensures.rule in
@@ -33,7 +33,7 @@ returns c = λ old new adds.
       c.in_ok-arg-3.ensures.globals,
       c.count.ensures.own,
       c.in_ok-arg-2.ensures.globals,
-      c.number-2.ensures.own,
+      c.needed_count.ensures.own,
       c.in_ok-arg.ensures.globals,
       c.number.ensures.own,
       c.after_help.ensures,
