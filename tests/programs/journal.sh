@@ -30,7 +30,7 @@ makes "the longest turn" "S 1 4" 4 4 --turn 4294967295
 makes "no ticks" "S 1 1,S 2 1,S 1 1" 2 3 --tick-every 0
 makes "the longest interval" "S 1 1,S 2 1,S 1 1" 2 3 --tick-every 4294967295
 makes "the first and the last line" "R 0 1,R 255 1" 2 2 --raise 0@1,255@2
-makes "a raise past the end, as late as may be" "S 1 1,S 2 1" 2 2 --raise 4@1000000
+makes "a raise past the end, as late as may be" "S 1 1,S 2 1" 2 2 --raise 4@4294967295
 makes "a raise as the last event" "S 1 999999,R 4 1" 1 1000000 --raise 4@1000000
 makes "the last weight alone, as great as may be" "S 2 3" 2 3 --random 1 --weights 0,1000000
 makes "the greatest weights" "S 1 3" 1 3 --random 1 --weights 1000000
@@ -40,6 +40,18 @@ makes "a chance of none" "S 1 3" 1 3 --random 1 --switch 0
 makes "a chance of all" "S 1 3" 1 3 --random 1 --switch 1000
 makes "the most changes" "S 1 3" 1 3 --random 1 --pct 1000
 makes "changes without an event" "" 2 0 --random 1 --pct 3
+# Long ones: as many lines as `run` takes, and counts past 4,194,304 in a line.
+makes "a long run" "S 1 30000000" 1 30000000
+makes "ticks in a long one" "S 1 9999999,T 1,S 1 5000001,S 2 4999998,T 1,S 2 5000000" 2 25000000 --turn 15000000 \
+    --tick-every 10000000 --raise 4@30000000
+makes "a raise late in a long one" "S 1 19999999,R 4 1,S 1 1" 1 20000001 --raise 4@20000000
+"$board" journal 2 4194304 > "$work/longest"
+verdict "journal: as many lines as run takes" "$([ "$(wc -l < "$work/longest")" = 4194305 ] || wc -l < "$work/longest")"
+"$board" asm examples/hello/hello.s "$work/hello"
+"$board" run "$work/hello" examples/hello/hello.cfg "$work/longest" > "$work/out" 2> "$work/err"
+verdict "journal: run takes so many lines" "$(grep -qx 'events 4194304' "$work/out" || head -n 2 "$work/out" "$work/err")"
+"$board" journal 2 4194305 > "$work/out" 2> "$work/err"
+check "journal: one line more" 2 "$work/nothing" "board: the journal needs more than 4194304 runs" $?
 # Journals that are drawn, as tests/model/schedules.py has them.
 makes "drawn" "S 2 3,S 1 2,S 2 4,T 1,S 2 1,S 1 1,S 2 4,S 1 1,S 2 2,T 1,S 1 3,S 2 1,S 1 1,S 2 4,T 1" \
     2 30 --random 7 --tick-every 10
@@ -71,14 +83,14 @@ refuses() {
     "$board" journal "$@" < /dev/null > "$work/out" 2> "$work/err"
     check "journal: $name" 2 "$work/nothing" "board: $what" $?
 }
-raise="--raise takes LINE@EVENT, with commas between several, as 4@10,4@20; a line is 0 to 255, an event 1 to 1000000, each once"
+raise="--raise takes LINE@EVENT, with commas between several, as 4@10,4@20; a line is 0 to 255, an event 1 to 4294967295, each once"
 weights="--weights takes a number from 0 to 1000000 for each processor, with commas between them, as 3,1,1, and not all are 0"
 no_seed="--switch, --weights and --pct are for a journal that is drawn: give --random SEED"
 both="--turn doesn't go with --random, nor --pct with --switch and --weights"
 refuses "no processor" "CPUS is 1 to 8" 0 1
 refuses "nine processors" "CPUS is 1 to 8" 9 1
 refuses "a middle-endian board" "--order is big or little" 2 9 --order middle
-for wrong in 4 4@ @4 4@0 256@1 4@1,4@1 4@1,,4@2 04@1 4@1000001 ''; do
+for wrong in 4 4@ @4 4@0 256@1 4@1,4@1 4@1,,4@2 04@1 4@4294967296 ''; do
     refuses "--raise '$wrong'" "$raise" 2 9 --raise "$wrong"
 done
 for wrong in 1 1,1,1 0,0 1,x 1,1000001 ,1; do
@@ -168,7 +180,8 @@ check "- for JOURNAL, by a pipe" 0 $example.report "" $?
 "$board" journal 1 40 | "$board" run "$work/image" $example.cfg - > "$work/out" 2> "$work/err"
 check "a journal that is made, by a pipe" 0 $example.report "" $?
 "$board" run - - $example.journal < "$work/image" > "$work/out" 2> "$work/err"
-check "- twice" 4 "$work/nothing" "board: can't open -: resource busy" $?
+check "- twice" 2 "$work/nothing" \
+    "board: several arguments are -, standard input, which is read once: name a file for all but one" $?
 
 # ---- many schedules
 
