@@ -65,9 +65,9 @@ pub fn explore<R: Read, P: Progress>(
     told_of(alloc, &loaded, options, progress)
 }
 
-/// Does `explore` on its files: IMAGE is opened, then CONFIG, and both are read. OUT may be neither, and is refused before
-/// the search where it couldn't be created. If a schedule was found that fails, OUT, if it is named, gets the journal, whole
-/// or not at all, before that is told; the command then ends as one that has found a failure does.
+/// Does `explore` on its files: IMAGE is opened, then CONFIG, and both are read. OUT may be neither, and is refused
+/// before the search where it couldn't be created. If a schedule was found that fails, OUT, if it is named, gets the
+/// journal, whole or not at all, before that is told; the command then ends as one that has found a failure does.
 pub fn explore_files<F: Files, W: Write, P: Progress>(
     alloc: Global,
     files: &mut F,
@@ -105,7 +105,8 @@ pub fn explore_files<F: Files, W: Write, P: Progress>(
     failed(saved, tell(output, &text))
 }
 
-/// How a search ends that has found a failure: as saving its journal did, or telling it; else as one that has found one.
+/// How a search ends that has found a failure: as saving its journal did, or telling it; else as one that has found
+/// one.
 fn failed(
     saved: Result<(), CommandFault>,
     told: Result<(), CommandFault>,

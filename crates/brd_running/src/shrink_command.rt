@@ -62,8 +62,8 @@ pub fn shrink<R: Read>(
 }
 
 /// Does `shrink` on its files: IMAGE is opened, then CONFIG, then JOURNAL, and all are read. OUT may be neither of the
-/// first two, and is refused before that where it couldn't be created. If it is named, it gets the journal of what is left,
-/// whole or not at all, before that is told.
+/// first two, and is refused before that where it couldn't be created. If it is named, it gets the journal of what is
+/// left, whole or not at all, before that is told.
 pub fn shrink_files<F: Files, W: Write>(
     alloc: Global,
     files: &mut F,

@@ -18,7 +18,7 @@ returns-in-Err-keep g c =
     ended (ap (λ (out : Option (Bor (List ℕ))). option_map (λ name. name.now) out) c.in-Some.is) c.in-Ok.ensures c.in-Err-keep.ensures
     (whole _ _ c.args.journal.now c.in-Ok-tell.ensures)
 
-pub returns : goal.returns
-returns g c =
+pub returns-in-Err-tell : goal.returns-in-Err-tell
+returns-in-Err-tell g c =
     ended (ap (λ (out : Option (Bor (List ℕ))). option_map (λ name. name.now) out) c.in-Some.is) c.in-Ok.ensures c.close.ensures
     c.in-Err-tell.ensures
