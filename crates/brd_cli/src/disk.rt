@@ -228,8 +228,8 @@ fn can_be_written(rt: &HostRuntime, name: &str, found: &Metadata) -> io::Result<
     Ok(())
 }
 
-/// Whether a file of a name that there isn't can be created: it is, and removed. (A link that leads to nothing is there,
-/// and so isn't created.)
+/// Whether a file of a name that there isn't can be created: it is, and removed. (A link that leads to nothing is
+/// there, and so isn't created.)
 fn can_be_new(rt: &HostRuntime, name: &str) -> io::Result<()> {
     match File::create_new(rt, name) {
         Ok(_file) => fs::remove_file(rt, name),
@@ -240,7 +240,11 @@ fn can_be_new(rt: &HostRuntime, name: &str) -> io::Result<()> {
 
 /// Whether what is read under a name is a file that was found.
 fn is_file_of(rt: &HostRuntime, found: &Metadata, name: &str) -> bool {
-    let name = if name.as_bytes() == INPUT { INPUT_FILE } else { name };
+    let name = if name.as_bytes() == INPUT {
+        INPUT_FILE
+    } else {
+        name
+    };
     match fs::metadata(rt, name) {
         Ok(other) => found.is_file() && other.dev() == found.dev() && other.ino() == found.ino(),
         Err(_) => false,
@@ -257,8 +261,8 @@ struct Place {
 /// The folder of devices, and of standard streams as files.
 const DEVICES: &str = "/dev/";
 
-/// The place of a name: its own, where there is no file; where there is one, and no link is lost, that to which the name
-/// leads. Nothing else can be put at that of a device, a pipe or a standard stream.
+/// The place of a name: its own, where there is no file; where there is one, and no link is lost, that to which the
+/// name leads. Nothing else can be put at that of a device, a pipe or a standard stream.
 fn place_of(rt: &HostRuntime, name: &str) -> Option<Place> {
     if name.starts_with(DEVICES) {
         return None;
@@ -299,7 +303,12 @@ fn begin_beside(rt: &HostRuntime, name: &str) -> Option<(File, Beside)> {
 }
 
 /// A file that was created for a place, with the permissions that it is to have.
-fn with_permissions(rt: &HostRuntime, file: File, part: String, place: Place) -> Option<(File, Beside)> {
+fn with_permissions(
+    rt: &HostRuntime,
+    file: File,
+    part: String,
+    place: Place,
+) -> Option<(File, Beside)> {
     if let Some(permissions) = place.permissions {
         if file.set_permissions(permissions).is_err() {
             let _ = fs::remove_file(rt, part.as_str());
