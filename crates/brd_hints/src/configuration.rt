@@ -1,6 +1,6 @@
 //! Diagnoses of kernel configurations.
 
-use crate::finding::{Finding, told};
+use crate::finding::{BYTE_ORDER_MARK, Finding, MARKED, told};
 use crate::hint::FaultHint;
 use crate::keywords::{OTHERS, Told, WORDS, told_of};
 use crate::names::{advice, near_name};
@@ -46,6 +46,9 @@ struct Reading<'a> {
 
 /// What keeps a configuration from having a form, where that is in this line.
 fn form_fault(text: &[u8], wanted: usize) -> Option<Finding<'_>> {
+    if text.starts_with(BYTE_ORDER_MARK) {
+        return (wanted == 1).then_some(said(MARKED));
+    }
     let mut scanner = Scanner::new(text);
     let mut reading = Reading {
         word: &[],

@@ -1,10 +1,17 @@
 //! What a diagnosis has found.
 
 use crate::hint::{FaultHint, MOST_OF_ADVICE, MOST_OF_NAME};
+use crate::instead::put_line;
+
+/// The bytes with which some editors begin a text.
+pub(crate) const BYTE_ORDER_MARK: &[u8] = b"\xef\xbb\xbf";
+
+/// What is said of them.
+pub(crate) const MARKED: &[u8] =
+    b"a byte order mark stands before the first line: save the text without it";
 
 /// What is wrong at a place of a line. In the template `~` stands for the word, `^` for the other word, `?` for the
-/// number in decimal, `&` for the second one, and `@` for the
-/// address.
+/// number in decimal, `&` for the second one, `@` for the address, and `|` for the line to write.
 #[derive(Clone, Copy)]
 pub(crate) struct Finding<'a> {
     /// How many bytes the line has from this place on.
@@ -21,6 +28,8 @@ pub(crate) struct Finding<'a> {
     pub second: u64,
     /// An address.
     pub address: u64,
+    /// The line to write, for an instruction of that name and with these operands.
+    pub line: Option<(&'static [u8], &'a [u8], &'a [u8])>,
 }
 
 impl<'a> Finding<'a> {
@@ -34,6 +43,7 @@ impl<'a> Finding<'a> {
             number: 0,
             second: 0,
             address: 0,
+            line: None,
         }
     }
 
@@ -65,6 +75,14 @@ impl<'a> Finding<'a> {
         Finding { address, ..self }
     }
 
+    /// With a line to write, for an instruction of this name and with these operands.
+    pub(crate) fn with_line(self, line: &'static [u8], name: &'a [u8], operands: &'a [u8]) -> Self {
+        Finding {
+            line: Some((line, name, operands)),
+            ..self
+        }
+    }
+
     /// Puts what is said at the end of a text.
     pub(crate) fn put_on(&self, hint: &mut FaultHint) {
         for byte in self.template {
@@ -74,8 +92,16 @@ impl<'a> Finding<'a> {
                 b'?' => hint.put_number(self.number),
                 b'&' => hint.put_number(self.second),
                 b'@' => hint.put_address(self.address),
+                b'|' => self.put_line_on(hint),
                 other => hint.put(other),
             }
+        }
+    }
+
+    /// Puts the line to write at the end of a text.
+    fn put_line_on(&self, hint: &mut FaultHint) {
+        if let Some((line, name, operands)) = self.line {
+            put_line(hint, line, name, operands);
         }
     }
 }

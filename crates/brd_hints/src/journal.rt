@@ -1,6 +1,6 @@
 //! Diagnoses of journals and scripts.
 
-use crate::finding::{Finding, told};
+use crate::finding::{BYTE_ORDER_MARK, Finding, MARKED, told};
 use crate::hint::FaultHint;
 use crate::names::has_name;
 use crate::scan::{behind, first};
@@ -52,12 +52,8 @@ fn line_of(text: &[u8], number: usize) -> (&[u8], bool) {
 
 /// What is wrong with the first line of a journal.
 fn first_line_fault(line: &[u8], is_ended: bool) -> Option<Finding<'_>> {
-    if line.starts_with(b"\xef\xbb\xbf".as_slice()) {
-        return Some(Finding::at(
-            line,
-            b"a byte order mark stands before the first line: save the text without it",
-            &[],
-        ));
+    if line.starts_with(BYTE_ORDER_MARK) {
+        return Some(Finding::at(line, MARKED, &[]));
     }
     if let Some(found) = byte_fault(line) {
         return Some(found);

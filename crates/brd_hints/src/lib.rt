@@ -8,9 +8,11 @@
 
 mod boot;
 mod configuration;
+mod ended;
 mod finding;
 mod hint;
 mod idle;
+mod instead;
 mod journal;
 mod keywords;
 mod mending;
@@ -19,6 +21,7 @@ mod object_file;
 mod operands;
 mod operations;
 mod places;
+mod registers;
 mod scan;
 mod source;
 mod statements;
@@ -27,6 +30,7 @@ mod warnings;
 
 pub use boot::boot_hint;
 pub use configuration::config_hint;
+pub use ended::{end_warning, overflow_warning, runaway_warning};
 pub use hint::FaultHint;
 pub use idle::run_warning;
 pub use journal::{journal_hint, script_hint};

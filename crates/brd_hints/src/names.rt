@@ -19,24 +19,74 @@ pub(crate) fn has_name(list: &[u8], name: &[u8]) -> bool {
     false
 }
 
-/// The name of a table that is nearly this one: with a letter more or less or two turned, or else with another letter.
-pub(crate) fn near_name<'a, T>(rows: &'a [(&'a [u8], T)], name: &[u8]) -> Option<&'a [u8]> {
-    name_near(rows, name, false).or(name_near(rows, name, true))
+/// How one name may have become another by a slip of the fingers.
+#[derive(Clone, Copy)]
+enum Slip {
+    /// Two letters are turned.
+    Turned,
+    /// It has a letter too many.
+    TooMany,
+    /// It lacks a letter.
+    TooFew,
+    /// It has another letter.
+    Other,
 }
 
-/// The first name of a table that is near in this way. What begins with a dot is near to what does so too.
-pub(crate) fn name_near<'a, T>(
+/// A name of a table that is near to another one.
+#[derive(Clone, Copy)]
+pub(crate) struct Near<'a> {
+    /// The name.
+    pub name: &'a [u8],
+    /// How the other one may have become of it.
+    slip: Slip,
+    /// How many letters in front are the same.
+    front: usize,
+}
+
+/// The name of a table that is nearly this one, if there is one: by the likeliest slip, and of those by the same the one
+/// with which it begins to differ last.
+pub(crate) fn near_name<'a, T>(rows: &'a [(&'a [u8], T)], name: &[u8]) -> Option<&'a [u8]> {
+    match nearer(None, rows, name) {
+        Some(near) => Some(near.name),
+        None => None,
+    }
+}
+
+/// The same of this name that was found already, and of those of a table. What begins with a dot is near to what does so
+/// too.
+pub(crate) fn nearer<'a, T>(
+    found: Option<Near<'a>>,
     rows: &'a [(&'a [u8], T)],
     name: &[u8],
-    is_other_letter: bool,
-) -> Option<&'a [u8]> {
+) -> Option<Near<'a>> {
+    let mut best = found;
     for (known, _) in rows {
         let may_be = first(name) != b'.' || first(known) == b'.';
-        if may_be && is_near(known, name, is_other_letter) {
-            return Some(*known);
+        if may_be {
+            best = better(best, near_to(known, name));
         }
     }
-    None
+    best
+}
+
+/// The nearer one of two names; of equally near ones the first.
+fn better<'a>(found: Option<Near<'a>>, other: Option<Near<'a>>) -> Option<Near<'a>> {
+    let (Some(one), Some(next)) = (found, other) else {
+        return found.or(other);
+    };
+    let is_nearer = rank(next.slip) < rank(one.slip)
+        || rank(next.slip) == rank(one.slip) && next.front > one.front;
+    if is_nearer { other } else { found }
+}
+
+/// The place of a slip among all, the likeliest first.
+fn rank(slip: Slip) -> usize {
+    match slip {
+        Slip::Turned => 0,
+        Slip::TooMany => 1,
+        Slip::TooFew => 2,
+        Slip::Other => 3,
+    }
 }
 
 /// The advice of a table for a name: what stands in the first line that has it before its colon, behind that.
@@ -53,11 +103,11 @@ pub(crate) fn advice<'a>(table: &'a [u8], name: &[u8]) -> Option<&'a [u8]> {
     None
 }
 
-/// Whether two names differ in one letter, or else in one that is left out or in two that are turned. Names of less
-/// than three letters are near to none.
-fn is_near(known: &[u8], name: &[u8], is_other_letter: bool) -> bool {
-    if known.len() < 3 || name.len() < 3 {
-        return false;
+/// A known name, if another one may have become of it by one slip. Names of a letter are near to none, and of those of two
+/// letters only what has them both.
+fn near_to<'a>(known: &'a [u8], name: &[u8]) -> Option<Near<'a>> {
+    if known.len() < 2 {
+        return None;
     }
     let front = common(known, name);
     let rest = behind(known, front);
@@ -66,11 +116,24 @@ fn is_near(known: &[u8], name: &[u8], is_other_letter: bool) -> bool {
     let back = common_end(rest, other).min(most);
     let (rest, _) = cut(rest, rest.len().saturating_sub(back));
     let (other, _) = cut(other, other.len().saturating_sub(back));
-    match (rest, other) {
-        ([a, b], [c, d]) => a == d && b == c,
-        ([_], [_]) => is_other_letter,
-        _ => rest.len() <= 1 && other.len() <= 1,
-    }
+    let is_long = known.len() > 2 && name.len() > 2;
+    let slip = match (rest, other) {
+        ([a, b], [c, d]) if is_same(*a, *d) && is_same(*b, *c) => Slip::Turned,
+        ([], [_]) => Slip::TooMany,
+        ([_], []) if is_long => Slip::TooFew,
+        ([_], [_]) if is_long => Slip::Other,
+        _ => return None,
+    };
+    Some(Near {
+        name: known,
+        slip,
+        front,
+    })
+}
+
+/// Whether two letters are the same, without regard to case.
+fn is_same(letter: u8, other: u8) -> bool {
+    letter.eq_ignore_ascii_case(&other)
 }
 
 /// How many bytes two texts have in common at their fronts, without regard to case.

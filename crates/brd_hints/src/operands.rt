@@ -1,6 +1,7 @@
 //! What is wrong with the operands of a statement.
 
 use crate::finding::Finding;
+use crate::instead::line_for;
 use crate::scan::{
     before_comma, behind, behind_commas, count, first, place_of, run, skip_blanks, token, trim_end,
 };
@@ -48,7 +49,10 @@ pub(crate) fn operand_fault<'a>(
             return Some(found);
         }
         if let Some(found) = kind_fault(kind_at(kinds, place), name, rest) {
-            return Some(found);
+            return Some(match kind_at(kinds, place) {
+                Kind::Address => with_line(found, b"found ~ without a base: write |", parts),
+                _ => found,
+            });
         }
     }
     None
@@ -74,9 +78,18 @@ fn counted<'a>(parts: &Parts<'a>, told: &'static [u8], have: usize) -> Finding<'
         (_, 1) => b"~ takes ^, found 1 operand".as_slice(),
         _ => b"~ takes ^, found ? operands".as_slice(),
     };
-    Finding::at(parts.operands, template, parts.word)
+    let found = Finding::at(parts.operands, template, parts.word)
         .with_other(told)
-        .with_number(have as u64)
+        .with_number(have as u64);
+    with_line(found, b"~ takes ^, found ? operands: write |", parts)
+}
+
+/// What was found, told so where there is a line to write.
+fn with_line<'a>(found: Finding<'a>, template: &'static [u8], parts: &Parts<'a>) -> Finding<'a> {
+    match line_for(parts.word, parts.operands) {
+        Some(line) => Finding { template, ..found }.with_line(line, parts.word, parts.operands),
+        None => found,
+    }
 }
 
 /// Whether an operation makes a quotient.
@@ -136,7 +149,12 @@ fn number_fault<'a>(
         return None;
     }
     let template = number_advice(parts.operation?)?;
-    Some(Finding::at(rest, template, operand).with_other(name))
+    let found = Finding::at(rest, template, operand).with_other(name);
+    Some(with_line(
+        found,
+        b"found ~ where the register ^ is wanted: write |",
+        parts,
+    ))
 }
 
 /// What to write for a number that stands where an operation wants a register.
@@ -172,8 +190,11 @@ fn number_advice(operation: Operation) -> Option<&'static [u8]> {
         Mnemonic::ThreeRegisters(RegisterOp::Sltu) => {
             b"found ~ where the register ^ is wanted: for a number write sltiu"
         }
-        Mnemonic::Branch(_) => {
+        Mnemonic::Branch(_) | Mnemonic::Multiply => {
             b"found ~ where the register ^ is wanted: put the number into a register by addiu before it"
+        }
+        Mnemonic::ShiftVariable(_) => {
+            b"found ~ where the register ^ is wanted: for a number write sll, srl or sra"
         }
         _ => return None,
     };

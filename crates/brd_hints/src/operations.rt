@@ -1,6 +1,6 @@
 //! What is said of mnemonics, shorthands and directives, and of those that are often written in their place.
 
-use crate::names::{name_near, near_name};
+use crate::names::{near_name, nearer};
 use crate::scan::{first, token};
 use brd_isa::{ImmediateOp, MNEMONIC_NAMES, Mnemonic};
 use brd_source::{
@@ -202,16 +202,17 @@ pub(crate) fn near_directive(name: &[u8]) -> Option<&'static [u8]> {
 
 /// The name of an instruction or a shorthand that is nearly this one, or of a directive.
 pub(crate) fn near_instruction(name: &[u8]) -> Option<&'static [u8]> {
-    name_near(MNEMONIC_NAMES, name, false)
-        .or(name_near(OTHER_NAMES, name, false))
-        .or(name_near(MNEMONIC_NAMES, name, true))
-        .or(name_near(OTHER_NAMES, name, true))
+    let near = nearer(None, MNEMONIC_NAMES, name);
+    match nearer(near, OTHER_NAMES, name) {
+        Some(near) => Some(near.name),
+        None => None,
+    }
 }
 
 /// What to write in the place of an instruction that isn't there: a line for those of which the same is said.
 pub(crate) const INSTRUCTIONS: &[u8] = b"\
-li dli: one-word forms only: use lui and ori, or addiu for -32768 to 32767
-la dla: one-word forms only: use lui with %hi(name), then addiu with %lo(name)
+li dli ldi movi: one-word forms only: use lui and ori, or addiu for -32768 to 32767
+la dla lea: one-word forms only: use lui with %hi(name), then addiu with %lo(name)
 blt bltu: use slt or sltu $at, rs, rt, then bnez $at, target
 bge bgeu: use slt or sltu $at, rs, rt, then beqz $at, target
 bgt bgtu: use slt or sltu $at, rt, rs, then bnez $at, target
@@ -226,12 +227,21 @@ seq: use xor, then sltiu rd, rd, 1
 sne: use xor, then sltu rd, $0, rd
 sgt sgtu sge sgeu sle sleu: use slt or sltu, with the operands turned or xori rd, rd, 1 after it
 rol ror rotr rotrv: use sll, srl and or
-ret: use jr $ra, and a slot
-call: use jal, and a slot
+ret rts: use jr $ra, and a slot
+call bl blx jsr: use jal, and a slot
 push pop: use addiu $sp, $sp, and sw or lw
-mov: use move
-bz beqzl bnz bnezl: use beqz or bnez
-jmp goto: use j or b, and a slot
+mov mv: use move, or addiu for a number
+bz beqzl bnz bnezl je jz jne jnz: use beq, bne, beqz or bnez, and a slot
+jl jg jle jge jb ja cmp tst: no flags: use slt or sltu, then bnez or beqz
+jmp jp goto bra bx br: use j, b or jr, and a slot
+ldr ldrb ldrh: use lw, lbu or lhu with offset(base), as 0($t0)
+str strb strh: use sw, sb or sh with offset(base), as 0($t0)
+lsl lsr asr: use sll, srl or sra
+orr eor mvn: use or, xor or nor
+inc dec: use addiu with 1 or -1
+lwi swi: use lw or sw with offset(base), as 0($t0)
+svc int ecall: use syscall, with the call's number in $v0
+halt hlt exit: end a task by ext_tsk (3 in $v0), the board by ext_ker (41), then syscall
 ulw usw ulh ulhu ush: use lwl and lwr, or swl and swr
 lwu ld sd daddu daddiu dsubu dsll dsrl: 32 bits only
 ext ins seb seh wsbh di ei rdhwr ehb synci: MIPS32 Release 1 only: with gcc use -march=mips32

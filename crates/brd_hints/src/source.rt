@@ -1,7 +1,8 @@
 //! Diagnoses of assembler source.
 
-use crate::finding::{Finding, told};
+use crate::finding::{BYTE_ORDER_MARK, Finding, MARKED, told};
 use crate::hint::FaultHint;
+use crate::instead::line_for;
 use crate::names::advice;
 use crate::operands::{operand_fault, values_fault};
 use crate::operations::{
@@ -68,6 +69,9 @@ pub(crate) fn has_right_labels<'a>(line: &'a [u8], parts: &Parts<'a>) -> bool {
 
 /// What keeps a line from having a form.
 fn form_fault<'a>(line: &'a [u8], parts: &Parts<'a>) -> Option<Finding<'a>> {
+    if line.starts_with(BYTE_ORDER_MARK) {
+        return Some(Finding::at(parts.code, MARKED, &[]));
+    }
     if is_string(parts.operation) && first(parts.operands) == b'\'' {
         let template = b"a string stands between double quotes, as \"text\"";
         return Some(Finding::at(parts.operands, template, &[]));
@@ -99,6 +103,7 @@ fn byte_fault(code: &[u8]) -> Option<Finding<'_>> {
         let (token, after) = first_token(rest)?;
         let from = after_blanks(rest);
         let found = match token {
+            SourceToken::Mark(b'\'') if constant_at(from).is_some() => constant_at(from),
             SourceToken::Mark(byte) => {
                 mark_advice(byte, first(behind(from, 1))).map(|template| {
                     Finding::at(from, template, &[]).with_number(byte as u64)
@@ -118,6 +123,19 @@ fn byte_fault(code: &[u8]) -> Option<Finding<'_>> {
         rest = after;
     }
     None
+}
+
+/// What is said of a character constant that stands at the front.
+fn constant_at(from: &[u8]) -> Option<Finding<'_>> {
+    let (text, number) = match from {
+        [b'\'', b'\\', b'n', b'\'', ..] => (cut(from, 4).0, 10u64),
+        [b'\'', b'\\', b't', b'\'', ..] => (cut(from, 4).0, 9),
+        [b'\'', b'\\', b'0', b'\'', ..] => (cut(from, 4).0, 0),
+        [b'\'', byte, b'\'', ..] => (cut(from, 3).0, *byte as u64),
+        _ => return None,
+    };
+    let template = b"no character constants: for ~ write ?";
+    Some(Finding::at(from, template, text).with_number(number))
 }
 
 /// A byte of a string that has no place there; the text goes on behind the string.
@@ -257,6 +275,14 @@ fn instruction_fault<'a>(parts: &Parts<'a>) -> Option<Finding<'a>> {
         };
     }
     let unknown = Finding::at(parts.statement, b"unknown instruction ~ (^)", parts.word);
+    if let Some(line) = line_for(parts.word, parts.operands) {
+        let template = b"unknown instruction ~ (write |)";
+        return Some(Finding {
+            template,
+            ..unknown
+        }
+        .with_line(line, parts.word, parts.operands));
+    }
     if let Some(text) = advice(INSTRUCTIONS, parts.word) {
         return Some(unknown.with_other(text));
     }

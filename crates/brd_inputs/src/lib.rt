@@ -20,7 +20,10 @@ mod start;
 mod trace_fault;
 mod words_fault;
 
-pub use brd_hints::{mended_source, run_warning, source_hint, source_warnings};
+pub use brd_hints::{
+    end_warning, mended_source, overflow_warning, run_warning, runaway_warning, source_hint,
+    source_warnings,
+};
 pub use brd_image::Loaded;
 pub use clue::Clue;
 pub use excerpt::Excerpt;
