@@ -24,6 +24,44 @@ pub fn error_name(code: u32) -> Option<&'static str> {
     }
 }
 
+/// Where a call of this number may not come from, and which one to make there, where that is said of E_CTX.
+pub fn context_advice(number: u32) -> Option<&'static str> {
+    let advice = match number {
+        1 => "not from a handler, which calls iact_tsk, nor with the CPU locked",
+        7 => "not from a handler, which calls imact_tsk, nor with the CPU locked",
+        10 => "not from a handler, which calls irot_rdq, nor with the CPU locked",
+        11 => "not from a handler, which calls iget_tid, nor with the CPU locked",
+        18 => "not from a handler, which calls iwup_tsk, nor with the CPU locked",
+        20 => "not from a handler, which calls irel_wai, nor with the CPU locked",
+        24 => "not from a handler, which calls isig_sem, nor with the CPU locked",
+        28 => "not from a handler, which calls iset_flg, nor with the CPU locked",
+        34 => "not from a handler, which calls ipsnd_dtq, nor with the CPU locked",
+        36 => "not from a handler, which calls ifsnd_dtq, nor with the CPU locked",
+        3 => "not from a handler, which ends by ret_int",
+        16 | 17 | 23 | 25 | 27 | 30 | 32 | 33 | 35 | 37 | 39 => {
+            "it may wait: not from a handler, nor with the CPU locked or dispatching disabled"
+        }
+        2 | 4..=6 | 8 | 9 | 12 | 13 | 19 | 21 | 22 | 26 | 29 | 31 | 38 | 40 | 60 | 61 => {
+            "not from a handler, nor with the CPU locked"
+        }
+        15 => "not from a handler, nor with a spin lock held",
+        14 | 41 | 62 => "not from a handler",
+        48 => "from a handler alone: a task calls act_tsk",
+        49 => "from a handler alone: a task calls wup_tsk",
+        50 => "from a handler alone: a task calls rel_wai",
+        51 => "from a handler alone: a task calls sig_sem",
+        52 => "from a handler alone: a task calls set_flg",
+        53 => "from a handler alone: a task calls psnd_dtq",
+        54 => "from a handler alone: a task calls fsnd_dtq",
+        55 => "from a handler alone: a task calls rot_rdq",
+        56 => "from a handler alone: a task calls get_tid",
+        57 => "from a handler alone: a task calls mact_tsk",
+        58 => "from a handler alone: a task ends by ext_tsk",
+        _ => return None,
+    };
+    Some(advice)
+}
+
 /// A call that was answered.
 #[derive(Clone, Copy)]
 pub struct Answered {

@@ -24,7 +24,7 @@ ghost use Rattle.brd_summary.specs.Texts.{AreTexts};
 use brd_base::{List, NoMemory};
 use brd_board::Board;
 use brd_names::{Names, put, put_count, put_named, put_number, put_signed};
-use brd_seen::{SaidCall, error_name};
+use brd_seen::{SaidCall, context_advice, error_name};
 use brd_verdicts::{Accounts, LostRaises, Refused, Unit, Units, Wait, circular_wait};
 use std::alloc::Global;
 
@@ -209,7 +209,21 @@ fn said(alloc: Global, kind: Refused) -> Result<Vec<u8>, NoMemory> {
         Some(name) => put(&mut what, name)?,
         None => put_signed(alloc, &mut what, kind.code)?,
     }
+    put_context(&mut what, kind)?;
     Ok(what)
+}
+
+/// Puts at the end where a call may not come from, and which one to make there, where it was refused for that.
+fn put_context(what: &mut Vec<u8>, kind: Refused) -> Result<(), NoMemory> {
+    if error_name(kind.code) != Some("E_CTX") {
+        return Ok(());
+    }
+    let Some(advice) = context_advice(kind.call.number) else {
+        return Ok(());
+    };
+    put(what, " (")?;
+    put(what, advice)?;
+    put(what, ")")
 }
 
 /// Puts the line of calls of one kind at the end, of which these words are said.
