@@ -6,6 +6,7 @@ use brd_happening::{Cause, Exception};
 use brd_isa::{Insn, RegisterOp};
 use brd_listing::write_instruction;
 use brd_names::{Names, put, put_number, put_word};
+use brd_word::Order;
 use std::alloc::Global;
 
 /// An exception of the instruction at an address.
@@ -15,6 +16,8 @@ pub struct Raised {
     pub place: u32,
     /// The exception.
     pub exception: Exception,
+    /// In which order the bytes of words lie.
+    pub order: Order,
 }
 
 impl Raised {
@@ -43,7 +46,8 @@ impl Raised {
             }
             Cause::NoInstruction(word) => {
                 put_word(out, word)?;
-                put(out, " is no instruction of MIPS32 Release 1")
+                put(out, " is no instruction of MIPS32 Release 1")?;
+                self.put_data(names, out, word)
             }
             Cause::JumpInSlot => {
                 self.put_instruction(out)?;
@@ -52,6 +56,22 @@ impl Raised {
             Cause::Operands { one, other } => self.put_operands(out, one, other),
             Cause::Unknown => put(out, "of no cause"),
         }
+    }
+
+    /// Puts at the end what the word is that was executed, and whose, where its bytes are text.
+    fn put_data(&self, names: Names, out: &mut Vec<u8>, word: u32) -> Result<(), NoMemory> {
+        let bytes = match self.order {
+            Order::Big => word.to_be_bytes(),
+            Order::Little => word.to_le_bytes(),
+        };
+        if !are_text(bytes) {
+            return Ok(());
+        }
+        put(out, ", but data behind ")?;
+        names.put_place(out, self.place)?;
+        put(out, ": '")?;
+        out.extend_from_slice(&bytes)?;
+        put(out, "'")
     }
 
     /// Whether it is for an address that isn't aligned.
@@ -77,7 +97,10 @@ impl Raised {
         } else {
             // $ra is 0 when a task or a handler begins
             if address == 0 && ra == 0 {
-                put(out, "returned from its function, ")?;
+                put(
+                    out,
+                    "returned from its function (a task ends by ext_tsk or ext_ker, a handler by ret_int), ",
+                )?;
             }
             put(out, "fetch outside RAM at ")?;
             put_word(out, address)?;
@@ -132,6 +155,16 @@ fn put_run(names: Names, out: &mut Vec<u8>, address: u32) -> Result<(), NoMemory
         return names.put_past(address, out);
     }
     Ok(())
+}
+
+/// Whether some bytes are printable ASCII.
+fn are_text(bytes: [u8; 4]) -> bool {
+    for byte in bytes.as_slice() {
+        if *byte < 32 || *byte > 126 {
+            return false;
+        }
+    }
+    true
 }
 
 /// The sign between the words of a sum or a difference.

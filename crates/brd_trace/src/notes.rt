@@ -89,7 +89,11 @@ impl<'a> Scene<'a> {
     pub(crate) fn fault_text(&self, place: u32) -> Result<Vec<u8>, NoMemory> {
         let mut what = Vec::new(self.alloc);
         if let What::Exception(exception) = self.told.what {
-            let raised = Raised { place, exception };
+            let raised = Raised {
+                place,
+                exception,
+                order: self.board.order(),
+            };
             raised.put(self.alloc, self.names, &mut what)?;
         }
         Ok(what)
