@@ -1,7 +1,7 @@
 -- What `try` prints of a board (own choice): its console, why it takes no more turns and after how many steps, what
 -- stands then in words, and the registers of each task that aren't 0.
-use Rattle.std.specs.Prelude.{◌≡◌, ℕ, zero, suc, ◌==◌, Bool, true, if◌then◌else◌, List, [], ◌∷◌, ◌++◌, codes, Option, None, Some}
-use Rattle.std.specs.Prelude.{slice_index_or}
+use Rattle.std.specs.Prelude.{◌≡◌, ℕ, zero, suc, ◌==◌, nat_lt, ◌-◌, Bool, true, if◌then◌else◌, List, [], ◌∷◌, ◌++◌}
+use Rattle.std.specs.Prelude.{codes, length, take, Option, None, Some, slice_index_or}
 use Rattle.std.specs.Bool.{MatchBool}
 use Rattle.std.specs.Fmt.{decimal}
 use Rattle.brd_board.specs.Board.{BoardState, task_of}
@@ -20,8 +20,17 @@ ends_from ends (byte ∷ bytes) = ends_from (byte == 10) bytes
 abbrev pub ends_line : List ℕ → Bool
 ends_line bytes = ends_from true bytes
 
+abbrev pub whole_text : List ℕ → List ℕ
+whole_text bytes = bytes ++ (if ends_line bytes then [] else 10 ∷ [])
+
+-- The same of a console that has at most 1,600 bytes, as 20 lines of 80; else its front, and how many bytes come behind it.
+abbrev pub more_text : ℕ → List ℕ
+more_text count = codes "(and " ++ decimal count ++ codes " bytes more: --keep, and board run shows them)\n"
+
 abbrev pub console_text : List ℕ → List ℕ
-console_text bytes = bytes ++ (if ends_line bytes then [] else 10 ∷ [])
+console_text bytes =
+    if nat_lt 1600 (length bytes) then whole_text (take 1600 bytes) ++ more_text (length bytes - 1600)
+    else whole_text bytes
 
 -- digits without the zeros in front
 abbrev pub trimmed : List ℕ → List ℕ
@@ -34,7 +43,8 @@ behind [] = []
 behind (byte ∷ bytes) = byte ∷ bytes ++ codes "  "
 
 abbrev pub with_word : List ℕ → List ℕ → List ℕ → ℕ → List ℕ
-with_word line front name word = if word == 0 then line else behind line ++ front ++ name ++ 32 ∷ trimmed (hex_of word)
+with_word line front name word =
+    if word == 0 then line else behind line ++ front ++ name ++ codes " 0x" ++ trimmed (hex_of word)
 
 -- a line with the first n registers of a context, by their names
 unfoldable pub registers_to : State → ℕ → List ℕ

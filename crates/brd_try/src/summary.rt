@@ -1,30 +1,35 @@
 //! What stands at the end, in words.
 
 use crate::turning::Turned;
-use brd_base::NoMemory;
+use brd_base::{BASE, NoMemory};
 use brd_board::{Board, TaskState, TaskView};
+use brd_config::Config;
 use brd_journal::Journal;
 use brd_listing::Places;
 use brd_mem::{Image, Segment};
 use brd_names::Names;
 use brd_printer::{Manner, Options};
 use brd_spins::{put_spins, spins};
+use brd_stacks::{Following, put_stacks, stacks_of};
 use brd_text::hex_digits;
 use brd_trace::Tracer;
-use brd_verdicts::findings_of;
+use brd_verdicts::{Refused, findings_of};
 use std::alloc::Global;
 
-/// What stands at the end of a journal, as a summary of its trace tells it, and which tasks have run off the end of
-/// the program.
+/// What stands at the end of a journal, as a summary of its trace tells it, which stacks have overflowed, and which tasks
+/// have run off the end of the program.
 pub(crate) fn summary(
     alloc: Global,
     image: &Image,
+    config: &Config,
     boot: Board,
     turned: &Turned,
     tasks: u8,
 ) -> Result<Vec<u8>, NoMemory> {
     let mut out = Vec::new(alloc);
+    let start = boot.try_copy()?;
     put_summary(alloc, image, boot, &turned.journal, &mut out)?;
+    put_overflow(alloc, image, config, start, &turned.journal, &mut out)?;
     for before in 0..tasks {
         put_runaway(alloc, image, &turned.board, before as u16 + 1, &mut out)?;
     }
@@ -61,6 +66,7 @@ fn put_summary(
     }
     let found = findings_of(alloc, first.try_copy()?, journal, len)?;
     brd_summary::put_summary(&tracer, alloc, manner.names, &found, out)?;
+    put_meant(found.accounts.refused.as_slice(), out)?;
     let spinning = spins(alloc, first, journal, &tracer.playback)?;
     put_spins(
         alloc,
@@ -71,8 +77,50 @@ fn put_summary(
     )
 }
 
+/// The calls of MARS and SPIM whose numbers are calls that take an ID here: they print an integer and a string, and read
+/// both.
+const OTHERS: [u32; 4] = [1, 4, 5, 8];
+
+/// Puts a line at the end, where a call was refused that has another meaning on MARS and SPIM.
+fn put_meant(refused: &[Refused], out: &mut Vec<u8>) -> Result<(), NoMemory> {
+    for kind in refused {
+        if OTHERS.contains(&kind.call.number) {
+            out.extend_from_slice(MEANT)?;
+            return Ok(());
+        }
+    }
+    Ok(())
+}
+
+/// What is said of such a call.
+const MEANT: &[u8] =
+    b"  (on MARS and SPIM 1 prints an integer, 4 a string, 11 a character, 10 ends: here 40 is \
+put_chr, which writes a character, 3 ext_tsk and 41 ext_ker, which end a task and the board)\n";
+
+/// Puts lines at the end that say how deep each stack became, where one has overflowed.
+fn put_overflow(
+    alloc: Global,
+    image: &Image,
+    config: &Config,
+    boot: Board,
+    journal: &Journal,
+    out: &mut Vec<u8>,
+) -> Result<(), NoMemory> {
+    let symbols = image.symbols.as_slice();
+    let stacks = stacks_of(alloc, symbols, config)?;
+    let mut following = Following::new(alloc, boot, stacks.as_slice())?;
+    let len = journal.len();
+    while following.playback.at < len {
+        following.advance_far(alloc, journal, len)?;
+        if following.has_overflow() {
+            return put_stacks(alloc, symbols, following.tracks(), out);
+        }
+    }
+    Ok(())
+}
+
 /// Puts a line at the end where a task goes on, or has stopped by an exception, at an address at which nothing of the
-/// program lies, nor before it.
+/// program lies, nor before it. Of one below RAM, as of a return from a task's function, the exception says enough.
 fn put_runaway(
     alloc: Global,
     image: &Image,
@@ -84,6 +132,9 @@ fn put_runaway(
         return Ok(());
     };
     let segments = image.segments.as_slice();
+    if place < BASE {
+        return Ok(());
+    }
     if lies_in(segments, place) || lies_in(segments, place.wrapping_sub(4)) {
         return Ok(());
     }

@@ -12,6 +12,9 @@ use brd_listing::write_place;
 use brd_mem::Symbol;
 use std::alloc::Global;
 
+/// How many bytes of a console are printed at most: 20 lines of 80.
+const MOST_OF_CONSOLE: usize = 1_600;
+
 /// What is told of a board with n tasks after so many steps, for this reason. The
 /// words tell what stands then.
 pub(crate) fn told(
@@ -26,7 +29,7 @@ pub(crate) fn told(
     ensures { IfOk result (λ text. IsTold tasks steps board.now text.items) }
 {
     let mut out = Vec::new(alloc);
-    put_console(&mut out, board.console())?;
+    put_console(alloc, &mut out, board.console())?;
     put_stop(alloc, &mut out, why, steps)?;
     out.extend_from_slice(words)?;
     put_tasks(alloc, &mut out, board, tasks)?;
@@ -57,9 +60,31 @@ pub(crate) fn why(
     Ok(out)
 }
 
-/// Puts a console's bytes at the end, and a newline where they don't end with one.
-fn put_console(out: &mut Vec<u8>, bytes: &[u8]) -> Result<(), NoMemory>
+/// Puts a console's bytes at the end, at most so many, and says how many more there are.
+fn put_console(alloc: Global, out: &mut Vec<u8>, bytes: &[u8]) -> Result<(), NoMemory>
     ensures { OnOk result (out.new.items ≡ out.old.items ++ telling.console_text bytes.now) }
+{
+    if bytes.len() <= MOST_OF_CONSOLE {
+        return put_whole(out, bytes);
+    }
+    let (front, rest) = bytes.split_at(MOST_OF_CONSOLE);
+    put_whole(out, front)?;
+    put_more(alloc, out, rest.len())
+}
+
+/// Puts at the end how many more bytes a console has.
+fn put_more(alloc: Global, out: &mut Vec<u8>, count: usize) -> Result<(), NoMemory>
+    ensures { OnOk result (out.new.items ≡ out.old.items ++ telling.more_text count) }
+{
+    let front = format!(in alloc; "(and {count}")?;
+    out.extend_from_slice(front.as_bytes())?;
+    out.extend_from_slice(b" bytes more: --keep, and board run shows them)\n")?;
+    Ok(())
+}
+
+/// Puts a console's bytes at the end, and a newline where they don't end with one.
+fn put_whole(out: &mut Vec<u8>, bytes: &[u8]) -> Result<(), NoMemory>
+    ensures { OnOk result (out.new.items ≡ out.old.items ++ telling.whole_text bytes.now) }
 {
     out.extend_from_slice(bytes)?;
     if !ends_line(bytes) {

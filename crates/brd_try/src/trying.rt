@@ -14,6 +14,7 @@ use crate::told::{told, why};
 use crate::turning::{Turned, take_turns};
 use brd_base::NoMemory;
 use brd_board::Board;
+use brd_config::Config;
 use brd_image::{Loaded, load_with_parts};
 use brd_inputs::{CommandFault, ScheduleFault};
 use brd_journal::JournalFault;
@@ -41,12 +42,12 @@ pub fn try_object(alloc: Global, object: &[u8], options: TryOptions) -> Result<T
     let Some(cpus) = processors(options.cpus) else {
         return Err(CommandFault::Schedule(ScheduleFault::Processors));
     };
-    let config = config_of(alloc, cpus, object)?;
+    let text = config_of(alloc, cpus, object)?;
     let Loaded {
         board,
         image,
-        config: _,
-    } = match made_board(alloc, object, &config) {
+        config,
+    } = match made_board(alloc, object, &text) {
         Ok(loaded) => loaded,
         Err(fault) => return Err(fault),
     };
@@ -55,11 +56,11 @@ pub fn try_object(alloc: Global, object: &[u8], options: TryOptions) -> Result<T
         Err(fault) => return Err(fault),
     };
     let journal = turned.journal.write_text(alloc)?;
-    let text = text_of(alloc, &image, board, cpus, &turned)?;
+    let told = text_of(alloc, &image, &config, board, cpus, &turned)?;
     Ok(Tried {
-        config,
+        config: text,
         journal,
-        text,
+        text: told,
     })
 }
 
@@ -131,6 +132,7 @@ fn fault_of(fault: JournalFault) -> CommandFault
 fn text_of(
     alloc: Global,
     image: &Image,
+    config: &Config,
     boot: Board,
     tasks: u8,
     turned: &Turned,
@@ -139,7 +141,7 @@ fn text_of(
 {
     let mut words = Vec::new(alloc);
     if tasks > 1 || !turned.board.is_off() {
-        words = summary(alloc, image, boot, turned, tasks)?;
+        words = summary(alloc, image, config, boot, turned, tasks)?;
     }
     let why = why(
         alloc,

@@ -45,7 +45,7 @@ fn put_word(line: &mut Vec<u8>, front: &[u8], name: &[u8], word: u32) -> Result<
     put_gap(line)?;
     line.extend_from_slice(front)?;
     line.extend_from_slice(name)?;
-    line.push(b' ')?;
+    line.extend_from_slice(b" 0x")?;
     put_trimmed(line, &hex_digits(word))
 }
 
