@@ -15,6 +15,11 @@ use brd_report::{show_context, show_number};
 use brd_text::hex_digits;
 use std::alloc::Global;
 
+/// What is said beside the answer to what is no command.
+const COMMANDS: &str =
+    "commands: goto N, next, back, break X, watch X, regs CPU, mem X, quit; X is an address of eight \
+hexadecimal digits without 0x, as 80000010 (board trace and nm say where what lies)";
+
 /// Does a command. What is answered to it; `None` to `quit`, which has no answer, and ends. How far a move is, is told
 /// on the way.
 pub fn answer<P: Progress>(
@@ -35,7 +40,10 @@ pub fn answer<P: Progress>(
         DebugCommand::Registers(cpu) => registers(alloc, debugger.show(), cpu)?,
         DebugCommand::Memory(address) => byte(alloc, debugger.show(), address)?,
         DebugCommand::Quit => return Ok(None),
-        DebugCommand::Unknown => line(alloc, b"unknown")?,
+        DebugCommand::Unknown => {
+            progress.warn(&COMMANDS);
+            line(alloc, b"unknown")?
+        }
     };
     Ok(Some(answer))
 }

@@ -36,4 +36,5 @@ pub use race_command::{race, race_files};
 pub use run_command::{run, run_files};
 pub use saving::save;
 pub use shrink_command::{ShrinkOptions, shrink, shrink_files};
+pub use warnings::warn_of_source;
 pub use words_command::words;

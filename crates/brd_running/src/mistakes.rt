@@ -42,6 +42,9 @@ fn other_faults(alloc: Global, source: &[u8], first: AsmFault) -> Result<Vec<Str
         let again = lines.contains(&line);
         if !again {
             if lines.len() == MOST {
+                others.push(format!(in alloc;
+                    "and more: these are the first 20 mistakes of the source"
+                )?)?;
                 return Ok(others);
             }
             let told = source_fault(alloc, &text, fault);

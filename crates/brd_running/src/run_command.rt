@@ -7,7 +7,7 @@ ghost use Rattle.brd_running.specs.Files.{RunFilesEnd};
 ghost use Rattle.brd_running.specs.RunCommand.{RunEnds};
 
 use crate::progress::replay;
-use crate::warnings::warn_of_run;
+use crate::warnings::{warn_of_end, warn_of_run};
 use brd_base::NoMemory;
 use brd_inputs::{CommandFault, Files, Inputs, Start, open_inputs, read_start};
 use brd_progress::Progress;
@@ -17,7 +17,7 @@ use std::io::{Read, Write};
 
 /// Reads an object file, a configuration and a journal to their ends, in this order, lets the board that the first two
 /// make do the journal's events, and writes its report. Nothing is written where what was read has a fault. What is odd
-/// about it is told first, and on the way how far it is.
+/// about it is told first, on the way how far it is, and then which exceptions have ended tasks.
 pub fn run<R: Read, W: Write, P: Progress>(
     alloc: Global,
     inputs: &mut Inputs<R>,
@@ -76,5 +76,6 @@ fn report_after<P: Progress>(
     } = start;
     warn_of_run(&board, &journal, progress);
     let board = replay(&journal, board, progress);
+    warn_of_end(&board, progress);
     report(alloc, &board, journal.len())
 }

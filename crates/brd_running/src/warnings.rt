@@ -1,7 +1,7 @@
 //! What is odd about the input of a command, which is done all the same.
 
 use brd_board::Board;
-use brd_inputs::{run_warning, source_warnings};
+use brd_inputs::{end_warning, run_warning, source_warnings};
 use brd_journal::Journal;
 use brd_progress::Progress;
 use std::alloc::Global;
@@ -21,5 +21,16 @@ pub fn warn_of_run<P: Progress>(board: &Board, journal: &Journal, progress: &mut
     let warning = run_warning(board, journal);
     if !warning.is_none() {
         progress.warn(&warning);
+    }
+}
+
+/// Tells which tasks of a board have ended by an exception, and which processors have stopped by one: the last of each
+/// processor.
+pub fn warn_of_end<P: Progress>(board: &Board, progress: &mut P) {
+    for cpu in 1..9u8 {
+        let warning = end_warning(board, cpu);
+        if !warning.is_none() {
+            progress.warn(&warning);
+        }
     }
 }
