@@ -11,7 +11,19 @@ const PATIENCE: u64 = 1_000;
 /// How many milliseconds what is shown stays at least (own choice).
 const PAUSE: u64 = 200;
 
+/// Who reads what is said beside the answers of a dialogue.
+#[derive(Clone, Copy, PartialEq, Eq)]
+pub enum Reader {
+    /// There is no dialogue.
+    NoDialogue,
+    /// Who types, on a terminal.
+    Person,
+    /// Nobody: what is asked comes from elsewhere.
+    Nobody,
+}
+
 /// A line of standard error that says how far a command is, where that is a terminal; and lines that warn, everywhere.
+/// Once the first command of a dialogue has begun, lines that would warn are advice, which a person alone gets.
 #[derive(Drop)]
 pub struct Screen<'a> {
     rt: &'a HostRuntime,
@@ -20,11 +32,15 @@ pub struct Screen<'a> {
     /// How long after that it is shown next.
     due: Duration,
     is_shown: bool,
+    /// Who reads advice.
+    reader: Reader,
+    /// Whether a command has begun.
+    has_begun: bool,
 }
 
 impl<'a> Screen<'a> {
-    /// The line of a program that begins now.
-    pub fn new(rt: &'a HostRuntime) -> Screen<'a> {
+    /// The line of a program that begins now. It is told whether the program has a dialogue by standard input.
+    pub fn new(rt: &'a HostRuntime, is_dialogue: bool) -> Screen<'a> {
         Screen {
             rt,
             start: if rt.stderr().is_terminal() {
@@ -34,6 +50,14 @@ impl<'a> Screen<'a> {
             },
             due: Duration::from_millis(PATIENCE),
             is_shown: false,
+            reader: if !is_dialogue {
+                Reader::NoDialogue
+            } else if rt.stdin().is_terminal() {
+                Reader::Person
+            } else {
+                Reader::Nobody
+            },
+            has_begun: false,
         }
     }
 
@@ -59,6 +83,7 @@ impl<'a> Screen<'a> {
 impl<'a> Progress for Screen<'a> {
     /// Shows nothing while the work takes less than a second.
     fn begin(&mut self) {
+        self.has_begun = true;
         if let Some(now) = self.now() {
             self.due = now.saturating_add(Duration::from_millis(PATIENCE));
         }
@@ -102,6 +127,12 @@ impl<'a> Progress for Screen<'a> {
     /// Says so in a line that stays.
     fn warn<D: fmt::Display>(&mut self, warning: &D) {
         self.hide();
+        if self.has_begun && self.reader != Reader::NoDialogue {
+            if self.reader == Reader::Person {
+                let _ = eprintln!(self.rt; "{warning}");
+            }
+            return;
+        }
         let _ = eprintln!(self.rt; "board: warning: {warning}");
     }
 }

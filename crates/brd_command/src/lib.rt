@@ -12,6 +12,7 @@ mod gdb_server;
 mod journal_command;
 mod journal_options;
 pub mod laws;
+mod odd_ends;
 mod races_command;
 mod request;
 mod stacks_command;

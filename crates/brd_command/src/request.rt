@@ -107,7 +107,7 @@ pub enum Request<'a> {
 /// neither reads standard input nor writes standard output; `run`, `race`, `trace`, `journal`, `explore`, `shrink` and
 /// `try` don't read standard input. `debug` and `gdb` read that only where their files could be opened and make a debugger.
 /// Threads of the host are started only for `race`. How far `run`, `race`, `debug`, `gdb`, `trace` and `explore` are, is
-/// told on the way, and what is odd about the input of `asm` and `run`.
+/// told on the way, and what is odd about the input of `asm`, `run` and `try`.
 pub fn perform<F: Files, R: Read, W: Write, P: Progress + Send, T: Threads + Wait + Sync>(
     rt: &T,
     alloc: Global,
@@ -182,6 +182,6 @@ pub fn perform<F: Files, R: Read, W: Write, P: Progress + Send, T: Threads + Wai
             options,
             keep,
             page,
-        } => try_files(alloc, files, source, options, keep, page, output),
+        } => try_files(alloc, files, source, options, keep, page, output, progress),
     }
 }

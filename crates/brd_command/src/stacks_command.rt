@@ -51,7 +51,7 @@ pub(crate) fn write_stacks<W: Write, P: Progress>(
 }
 
 /// Lets a board do the events of a journal up to a position, or up to the first store below a stack.
-fn play<P: Progress>(
+pub(crate) fn play<P: Progress>(
     alloc: Global,
     following: &mut Following,
     journal: &Journal,

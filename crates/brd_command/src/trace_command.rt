@@ -28,6 +28,7 @@ ghost use Rattle.brd_trace.specs.Recorded.{begun_of};
 ghost use Rattle.brd_printer.specs.Telling.{IsTrace};
 ghost use Rattle.brd_printer.specs.Words.{Adds};
 
+use crate::odd_ends::warn_of_ends;
 use crate::races_command::write_races;
 use crate::stacks_command::write_stacks;
 use crate::trace_options::{TraceFormat, TraceOptions};
@@ -170,6 +171,9 @@ fn write_trace<W: Write, P: Progress>(
         return write_stacks(
             alloc, board, &image, &config, &journal, part.to, writer, progress,
         );
+    }
+    if options.summary {
+        warn_of_ends(alloc, &board, &image, &config, &journal, part.to, progress);
     }
     let shown = Options {
         cpu: options.cpu,

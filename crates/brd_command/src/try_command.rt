@@ -14,8 +14,9 @@ use brd_inputs::{
 };
 use brd_page::{PageFault, Part, page};
 use brd_printer::Options;
+use brd_progress::Progress;
 use brd_report::write_whole;
-use brd_running::{object_file, save, with_others};
+use brd_running::{object_file, save, warn_of_source, with_others};
 use brd_trace::Tracer;
 use brd_try::{TryOptions, try_object};
 use std::alloc::Global;
@@ -33,11 +34,12 @@ struct Attempt {
 /// Reads an assembler source or an object file to its end, lets a board of it take turns until nothing is left to do,
 /// and writes what came of it. Answers the object file, and the configuration and the journal that were made for it.
 /// Nothing is written where nothing can be run.
-pub(crate) fn try_source<R: Read, W: Write>(
+pub(crate) fn try_source<R: Read, W: Write, P: Progress>(
     alloc: Global,
     reader: &mut R,
     options: TryOptions,
     writer: &mut W,
+    progress: &mut P,
 ) -> Result<Texts, CommandFault>
     ensures { IfSome (R.remaining reader.old) (λ source. MatchResult result
         (λ texts. Tries options source texts.image.items texts.config.items texts.last.items
@@ -48,7 +50,7 @@ pub(crate) fn try_source<R: Read, W: Write>(
         Ok(source) => source,
         Err(fault) => return Err(fault),
     };
-    let attempt = match attempted(alloc, source, options) {
+    let attempt = match attempted(alloc, source, options, progress) {
         Ok(attempt) => attempt,
         Err(fault) => return Err(fault),
     };
@@ -60,7 +62,7 @@ pub(crate) fn try_source<R: Read, W: Write>(
 
 /// Does `try` on its files: SOURCE is opened, then read. After what came of it is told, the configuration and the
 /// journal go to files whose names begin as is said, and a page of it to another file, each if one is named.
-pub fn try_files<F: Files, W: Write>(
+pub fn try_files<F: Files, W: Write, P: Progress>(
     alloc: Global,
     files: &mut F,
     source: &str,
@@ -68,6 +70,7 @@ pub fn try_files<F: Files, W: Write>(
     keep: Option<&str>,
     page: Option<&str>,
     output: &mut W,
+    progress: &mut P,
 ) -> Result<(), CommandFault>
     ensures { TryFilesEnd F.opened F.created F.closed F.Input.remaining F.Output.contents
         files.old source.now options (option_map (λ name. name.now) keep.entry)
@@ -77,7 +80,7 @@ pub fn try_files<F: Files, W: Write>(
         Ok(reader) => reader,
         Err(error) => return Err(CommandFault::of_open(alloc, source, error)),
     };
-    let texts = match try_source(alloc, &mut reader, options, output) {
+    let texts = match try_source(alloc, &mut reader, options, output, progress) {
         Ok(texts) => texts,
         Err(fault) => return Err(fault),
     };
@@ -88,12 +91,17 @@ pub fn try_files<F: Files, W: Write>(
 }
 
 /// What is run of what was read, and told of it.
-fn attempted(alloc: Global, source: Vec<u8>, options: TryOptions) -> Result<Attempt, CommandFault>
+fn attempted<P: Progress>(
+    alloc: Global,
+    source: Vec<u8>,
+    options: TryOptions,
+    progress: &mut P,
+) -> Result<Attempt, CommandFault>
     ensures { MatchResult result
         (λ it. IsTriedOf options source.items it.texts.image.items it.texts.config.items it.texts.last.items
         it.told.items) (KeepsFromTryingIt options source.items) }
 {
-    let image = match object_of(alloc, source) {
+    let image = match object_of(alloc, source, progress) {
         Ok(image) => image,
         Err(fault) => return Err(fault),
     };
@@ -111,8 +119,13 @@ fn attempted(alloc: Global, source: Vec<u8>, options: TryOptions) -> Result<Atte
     })
 }
 
-/// What was read, where that looks like an object file, else the object file of the source that was read.
-fn object_of(alloc: Global, source: Vec<u8>) -> Result<Vec<u8>, CommandFault>
+/// What was read, where that looks like an object file, else the object file of the source that was read. What is odd
+/// about a source that has one is told.
+fn object_of<P: Progress>(
+    alloc: Global,
+    source: Vec<u8>,
+    progress: &mut P,
+) -> Result<Vec<u8>, CommandFault>
     ensures { MatchResult result (λ object. IsObjectOf source.items object.items)
         (λ fault. (looks_like_one source.items ≡ false) × KeepsFromAssembling source.items fault) }
 {
@@ -120,7 +133,10 @@ fn object_of(alloc: Global, source: Vec<u8>) -> Result<Vec<u8>, CommandFault>
         return Ok(source);
     }
     match object_file(alloc, &source) {
-        Ok(object) => Ok(object),
+        Ok(object) => {
+            warn_of_source(alloc, &source, progress);
+            Ok(object)
+        }
         Err(fault) => Err(with_others(alloc, &source, fault)),
     }
 }
