@@ -9,7 +9,7 @@ import os
 import re
 import strict
 
-REFUSED = re.compile(r"(?m)^refused: put_chr\(.*\) = (E_\w+) at event")
+REFUSED = re.compile(r"(?m)^refused: put_chr\(.*\) = (E_\w+)(?: \(.*?\))? at event")
 STORED = re.compile(r" *(\d+) \d +(task|handler) (\d+) .*; (lost_output|board_lost_by) "
                     r"\([0-9a-f]{8}\): ([0-9a-f]{8}), was ([0-9a-f]{8})\b.*")
 WHY = {"E_CTX": "handlers and CPU-locked tasks can't write", "E_QOVR": "the console is full"}

@@ -78,6 +78,7 @@ class Processor:
         self.number, self.ready, self.running = number, TaskList("ready", True), None
         self.line = self.handler = self.lock = None
         self.locked = self.disabled = self.stopped = False
+        self.last_fault = None
 
     def is_held(self):
         return self.line is not None or self.locked or self.disabled or self.stopped
@@ -218,6 +219,7 @@ class Board:
         try:
             called = execute(context, self.memory, processor.number)
         except Fault as fault:
+            processor.last_fault = fault.code, address
             self.fault(processor, fault.code)
             return "Faulted", address
         if called:

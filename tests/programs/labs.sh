@@ -190,7 +190,7 @@ task 3 should write 3
 task 3 still has an exception, at divide: Tr: division by zero, teq $t1, $zero, 7, of 00000000 and 00000000
 task 4 should write 4
 task 4 still has an exception, at add+0xc: Ov: add $t0, $t0, $t1, 70000000 + 60000000 is no signed word
-task 5 still has an exception, at 00000000: IBE: returned from its function, fetch outside RAM at 00000000, $ra is 00000000
+task 5 still has an exception, at 00000000: IBE: returned from its function (a task ends by ext_tsk or ext_ker, a handler by ret_int), fetch outside RAM at 00000000, $ra is 00000000
 END
 } | looked "the beginning" 2 1
 solved 2

@@ -2,7 +2,7 @@
 # What the program says of mistakes: tests/programs/messages.sh PROGRAM. messages.table has one a line: the kind of
 # text, a name for the mistake, the text as `printf %b` reads it, and the message after `board: `. A text is a source
 # (s), a configuration (c) or a journal (j) beside a right object file, configuration and journal, or a source whose
-# object file is written all the same (w), of which there is a warning or nothing.
+# object file is written all the same (w), of which there is a warning or nothing, or of which `try` has such a line (t).
 . "$(dirname "$0")/check.sh"
 
 example=examples/hello/hello
@@ -21,6 +21,13 @@ while IFS=$'\t' read -r kind name text message; do
     if [ "$kind" = w ]; then
         "$board" asm "$work/text" "$work/made" 2> "$work/err"
         check "messages: $name" 0 "$work/nothing" "${message:+board: warning: $message}" $?
+        continue
+    fi
+    if [ "$kind" = t ]; then
+        "$board" try "$work/text" > "$work/out" 2>&1
+        wrong=
+        grep -qF -- "$message" "$work/out" || wrong="no line has '$message': $(head -c 600 "$work/out")"
+        verdict "messages: $name" "$wrong"
         continue
     fi
     case $kind in

@@ -24,7 +24,7 @@ tells() {
 cat > "$work/wanted" << 'END'
 Hi
 stopped: ext_ker at done+0x4 after 25 steps
-$v0 29  $s0 8000002b  $sp 80010000
+$v0 0x29  $s0 0x8000002b  $sp 0x80010000
 END
 tries "a source" 0 "" examples/hello/hello.s
 "$board" asm examples/hello/hello.s "$work/hello.elf"
@@ -72,7 +72,7 @@ tells "a task is given its processor's number" "1" "$work/tasks.s"
 tells "turns of three processors" "123" --cpus 3 "$work/tasks.s"
 tells "steps of three processors" "stopped: every task has ended, after 18 steps" --cpus 3 "$work/tasks.s"
 # shellcheck disable=SC2016
-tells "registers of three tasks" 'task 3: \$v0 3  \$a0 33  \$s0 33  \$sp [0-9a-f]{8}' --cpus 3 "$work/tasks.s"
+tells "registers of three tasks" 'task 3: \$v0 0x3  \$a0 0x33  \$s0 0x33  \$sp 0x[0-9a-f]{8}' --cpus 3 "$work/tasks.s"
 tells "eight processors" "12345678" --cpus 8 "$work/tasks.s"
 tells "as many steps as are wanted" "stopped: no end after 4 steps" --steps 4 "$work/tasks.s"
 tells "one step" "stopped: no end after 1 step" --steps 1 "$work/tasks.s"
