@@ -16,8 +16,8 @@ use std::alloc::Global;
 /// How many events a run has at most of which this is looked for: it takes a play of them.
 const MOST: u64 = 1_000_000;
 
-/// Tells which stack of a board a journal overflows first, up to a position, or else which tasks have run off the end of
-/// the program. Where there is no memory for that, nothing is told.
+/// Tells which stack of a board a journal overflows first, up to a position, or else which tasks have run off the end
+/// of the program. Where there is no memory for that, nothing is told.
 pub(crate) fn warn_of_ends<P: Progress>(
     alloc: Global,
     board: &Board,

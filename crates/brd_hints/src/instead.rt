@@ -8,13 +8,13 @@ use crate::scan::{
 use brd_source::register_of;
 use brd_text::{hex_digits, is_name, number, split_line};
 
-/// What to write, by the first row that fits: the names of instructions; behind a slash their operands, a letter for each;
-/// behind a colon the line, or several.
+/// What to write, by the first row that fits: the names of instructions; behind a slash their operands, a letter for
+/// each; behind a colon the line, or several.
 ///
-/// Of the operands `r` is a register, `s` a number of 16 bits with sign, `p` the same but the greatest, `u` one of 16 bits
-/// without sign, `h` one of 32 bits whose low half is 0, `w` one of 32 bits, `n` a name or a sum, `m` an address with a
-/// base, `t` anything. In a line `A`, `B` and `C` stand for the operands, `O` for the instruction's name, `H` and `L` for
-/// the halves of the second operand, `P` for the number after that, and `N` for the last operand negated.
+/// Of the operands `r` is a register, `s` a number of 16 bits with sign, `p` the same but the greatest, `u` one of 16
+/// bits without sign, `h` one of 32 bits whose low half is 0, `w` one of 32 bits, `n` a name or a sum, `m` an address
+/// with a base, `t` anything. In a line `A`, `B` and `C` stand for the operands, `O` for the instruction's name, `H`
+/// and `L` for the halves of the second operand, `P` for the number after that, and `N` for the last operand negated.
 const LINES: &[u8] = b"\
 li dli la dla lea move mov movi ldi /rs: addiu A, $0, B
 li dli la dla lea move mov movi ldi /ru: ori A, $0, B

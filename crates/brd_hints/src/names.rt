@@ -43,8 +43,8 @@ pub(crate) struct Near<'a> {
     front: usize,
 }
 
-/// The name of a table that is nearly this one, if there is one: by the likeliest slip, and of those by the same the one
-/// with which it begins to differ last.
+/// The name of a table that is nearly this one, if there is one: by the likeliest slip, and of those by the same the
+/// one with which it begins to differ last.
 pub(crate) fn near_name<'a, T>(rows: &'a [(&'a [u8], T)], name: &[u8]) -> Option<&'a [u8]> {
     match nearer(None, rows, name) {
         Some(near) => Some(near.name),
@@ -52,8 +52,8 @@ pub(crate) fn near_name<'a, T>(rows: &'a [(&'a [u8], T)], name: &[u8]) -> Option
     }
 }
 
-/// The same of this name that was found already, and of those of a table. What begins with a dot is near to what does so
-/// too.
+/// The same of this name that was found already, and of those of a table. What begins with a dot is near to what does
+/// so too.
 pub(crate) fn nearer<'a, T>(
     found: Option<Near<'a>>,
     rows: &'a [(&'a [u8], T)],
@@ -103,8 +103,8 @@ pub(crate) fn advice<'a>(table: &'a [u8], name: &[u8]) -> Option<&'a [u8]> {
     None
 }
 
-/// A known name, if another one may have become of it by one slip. Names of a letter are near to none, and of those of two
-/// letters only what has them both.
+/// A known name, if another one may have become of it by one slip. Names of a letter are near to none, and of those of
+/// two letters only what has them both.
 fn near_to<'a>(known: &'a [u8], name: &[u8]) -> Option<Near<'a>> {
     if known.len() < 2 {
         return None;

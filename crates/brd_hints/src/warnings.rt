@@ -86,8 +86,8 @@ struct Walk<'a> {
     is_in_order: bool,
 }
 
-/// What is wrong with a source that is assembled all the same: branches in the slots of branches, slots that have a label
-/// or read what their call answers, and instructions behind which data are executed, or in a source with a label
+/// What is wrong with a source that is assembled all the same: branches in the slots of branches, slots that have a
+/// label or read what their call answers, and instructions behind which data are executed, or in a source with a label
 /// `_start` or `main` nothing at all.
 pub fn source_warnings(alloc: Global, text: &[u8]) -> Result<Vec<FaultHint>, NoMemory> {
     let mut warnings = Vec::new(alloc);

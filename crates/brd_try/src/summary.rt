@@ -16,8 +16,8 @@ use brd_trace::Tracer;
 use brd_verdicts::{Refused, findings_of};
 use std::alloc::Global;
 
-/// What stands at the end of a journal, as a summary of its trace tells it, which stacks have overflowed, and which tasks
-/// have run off the end of the program.
+/// What stands at the end of a journal, as a summary of its trace tells it, which stacks have overflowed, and which
+/// tasks have run off the end of the program.
 pub(crate) fn summary(
     alloc: Global,
     image: &Image,
@@ -77,8 +77,8 @@ fn put_summary(
     )
 }
 
-/// The calls of MARS and SPIM whose numbers are calls that take an ID here: they print an integer and a string, and read
-/// both.
+/// The calls of MARS and SPIM whose numbers are calls that take an ID here: they print an integer and a string, and
+/// read both.
 const OTHERS: [u32; 4] = [1, 4, 5, 8];
 
 /// Puts a line at the end, where a call was refused that has another meaning on MARS and SPIM.
