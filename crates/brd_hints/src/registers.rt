@@ -12,9 +12,6 @@ pub(crate) const V0: u32 = 2;
 /// Where more of what a call answers stands.
 pub(crate) const V1: u32 = 3;
 
-/// Where a call's arguments stand: $a0 to $a3.
-pub(crate) const ARGUMENTS: [u32; 4] = [4, 5, 6, 7];
-
 /// Where the return address stands.
 pub(crate) const RA: u32 = 31;
 
@@ -38,12 +35,6 @@ pub(crate) fn writes(parts: &Parts, register: u32) -> bool {
     is_instruction(parts)
         && writes_first(parts.operation)
         && register_in(parts.operands, 0) == Some(register)
-}
-
-/// Whether a line writes one of some registers.
-pub(crate) fn writes_one_of(parts: &Parts, registers: [u32; 4]) -> bool {
-    let [first, second, third, fourth] = registers;
-    writes(parts, first) || writes(parts, second) || writes(parts, third) || writes(parts, fourth)
 }
 
 /// The constant that a line puts into its register, where it says one: a number that is added to register 0.

@@ -2,7 +2,7 @@
 
 use crate::finding::{Finding, told};
 use crate::hint::FaultHint;
-use crate::registers::{ARGUMENTS, RA, V0, V1, constant_of, reads, writes, writes_one_of};
+use crate::registers::{RA, V0, V1, constant_of, reads, writes};
 use crate::scan::{first, run, skip_blanks};
 use crate::statements::{Parts, behind_label, parts_of};
 use brd_base::NoMemory;
@@ -248,11 +248,10 @@ fn said_of_slot<'a>(
     Some((LABEL_AT_SLOT, slot.label))
 }
 
-/// Whether a line in the slot of a call seems to take its answer: it reads $v0 or $v1, and neither hands it on as an
-/// argument, nor did $v0 get a word before that nothing has read.
+/// Whether a line in the slot of a call seems to take its answer: it reads $v0 or $v1, and $v0 got no word before that
+/// nothing has read.
 fn takes_answer(parts: &Parts, is_given: bool) -> bool {
-    let does_read = reads(parts, V0) || reads(parts, V1);
-    does_read && !is_given && !writes_one_of(parts, ARGUMENTS)
+    !is_given && (reads(parts, V0) || reads(parts, V1))
 }
 
 /// What is wrong where nothing comes behind the last line.
