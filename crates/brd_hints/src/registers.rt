@@ -1,10 +1,13 @@
 //! Which registers a line of assembler source reads and writes, as its operands say.
 
 use crate::scan::{before_comma, behind, behind_commas, count, first, place_of, run, skip_blanks};
-use crate::statements::Parts;
+use crate::statements::{Parts, parts_of};
 use brd_isa::{LinkedOp, Mnemonic};
-use brd_source::{Operation, Shorthand, register_of};
-use brd_text::number;
+use brd_source::{Directive, Operation, Shorthand, register_of};
+use brd_text::{number, split_line};
+
+/// How many lines of a source are looked at for a name's value.
+const MOST_LINES: usize = 64;
 
 /// Where a service call's number stands, and what a call answers.
 pub(crate) const V0: u32 = 2;
@@ -37,8 +40,9 @@ pub(crate) fn writes(parts: &Parts, register: u32) -> bool {
         && register_in(parts.operands, 0) == Some(register)
 }
 
-/// The constant that a line puts into its register, where it says one: a number that is added to register 0.
-pub(crate) fn constant_of(parts: &Parts) -> Option<u32> {
+/// The constant that a line of a source puts into its register, where it says one: a number that is added to register
+/// 0, or the name of one.
+pub(crate) fn constant_of(text: &[u8], parts: &Parts) -> Option<u32> {
     if !matches!(
         parts.operation,
         Some(Operation::Mnemonic(Mnemonic::WithImmediate(_)))
@@ -48,7 +52,28 @@ pub(crate) fn constant_of(parts: &Parts) -> Option<u32> {
     if register_in(parts.operands, 1) != Some(0) {
         return None;
     }
-    number(before_comma(behind_commas(parts.operands, 2)?))
+    let operand = before_comma(behind_commas(parts.operands, 2)?);
+    number(operand).or(equated(text, operand))
+}
+
+/// The number that one of the first lines of a source gives a name.
+fn equated(text: &[u8], name: &[u8]) -> Option<u32> {
+    let mut rest = text;
+    for _ in 0..MOST_LINES {
+        let (line, after) = split_line(rest);
+        let parts = parts_of(line);
+        let (word, _) = run(parts.operands);
+        if is_equ(parts.operation) && word == name {
+            return number(before_comma(behind_commas(parts.operands, 1)?));
+        }
+        rest = after?;
+    }
+    None
+}
+
+/// Whether an operation gives a name a value.
+fn is_equ(operation: Option<Operation>) -> bool {
+    matches!(operation, Some(Operation::Directive(Directive::Equ)))
 }
 
 /// Whether a line is an instruction.

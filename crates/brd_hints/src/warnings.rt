@@ -72,6 +72,8 @@ struct Placed<'a> {
 /// What is known of the lines of a source so far.
 #[derive(Clone, Copy)]
 struct Walk<'a> {
+    /// The source.
+    text: &'a [u8],
     /// The last one that puts something somewhere.
     last: Placed<'a>,
     /// The last label behind it.
@@ -91,7 +93,7 @@ struct Walk<'a> {
 /// `_start` or `main` nothing at all.
 pub fn source_warnings(alloc: Global, text: &[u8]) -> Result<Vec<FaultHint>, NoMemory> {
     let mut warnings = Vec::new(alloc);
-    let mut walk = Walk::begun();
+    let mut walk = Walk::begun(text);
     let mut rest = text;
     for number in 1..usize::MAX {
         let (line, after) = split_line(rest);
@@ -109,8 +111,9 @@ pub fn source_warnings(alloc: Global, text: &[u8]) -> Result<Vec<FaultHint>, NoM
 
 impl<'a> Walk<'a> {
     /// Before the first line.
-    fn begun() -> Walk<'a> {
+    fn begun(text: &'a [u8]) -> Walk<'a> {
         Walk {
+            text,
             last: Placed {
                 number: 0,
                 sort: Sort::Other,
@@ -181,7 +184,7 @@ impl<'a> Walk<'a> {
             self.number = None;
             self.is_given = true;
         } else if writes(parts, V0) {
-            self.number = constant_of(parts);
+            self.number = constant_of(self.text, parts);
             self.is_given = true;
         } else if reads(parts, V0) {
             self.is_given = false;
