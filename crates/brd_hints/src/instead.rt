@@ -3,7 +3,7 @@
 use crate::hint::{FaultHint, MOST_OF_NAME};
 use crate::names::has_name;
 use crate::scan::{
-    before_comma, behind, behind_commas, count, cut, first, place_of, skip_blanks, token,
+    before_comma, behind, behind_commas, count, cut, first, place_of, skip_blanks, token, trim_end,
 };
 use brd_source::register_of;
 use brd_text::{hex_digits, is_name, number, split_line};
@@ -13,8 +13,9 @@ use brd_text::{hex_digits, is_name, number, split_line};
 ///
 /// Of the operands `r` is a register, `s` a number of 16 bits with sign, `p` the same but the greatest, `u` one of 16
 /// bits without sign, `h` one of 32 bits whose low half is 0, `w` one of 32 bits, `n` a name or a sum, `m` an address
-/// with a base, `t` anything. In a line `A`, `B` and `C` stand for the operands, `O` for the instruction's name, `H`
-/// and `L` for the halves of the second operand, `P` for the number after that, and `N` for the last operand negated.
+/// with a base, `b` one whose offset is a name or a sum, `t` anything. In a line `A`, `B` and `C` stand for the
+/// operands, `D` and `E` for the offset and the base of the second one, `H` and `L` for its halves, `P` for the number
+/// after it, `N` for the last operand negated, and `O` for the instruction's name.
 const LINES: &[u8] = b"\
 li dli la dla lea move mov movi ldi /rs: addiu A, $0, B
 li dli la dla lea move mov movi ldi /ru: ori A, $0, B
@@ -24,6 +25,7 @@ li dli la dla lea ldi /rn: lui A, %hi(B), then addiu A, A, %lo(B)
 mov mv movl /rr: move A, B
 lw lb lbu lh lhu ll /rn: lui A, %hi(B), then O A, %lo(B)(A)
 sw sb sh sc /rn: lui $at, %hi(B), then O A, %lo(B)($at)
+lw lb lbu lh lhu ll sw sb sh sc /rb: lui $at, %hi(D), then addu $at, $at, E, then O A, %lo(D)($at)
 ldr lwi /rm: lw A, B
 ldr lwi /rn: lui A, %hi(B), then lw A, %lo(B)(A)
 str swi /rm: sw A, B
@@ -150,6 +152,7 @@ fn is_of(kind: u8, operand: &[u8]) -> bool {
         b'w' => value.is_some(),
         b'n' => is_name(token(operand)) && place_of(operand, b'(').is_none(),
         b'm' => place_of(operand, b'(').is_some(),
+        b'b' => is_name(token(operand)) && place_of(operand, b'(').is_some(),
         _ => !operand.is_empty(),
     }
 }
@@ -175,6 +178,8 @@ pub(crate) fn put_line(hint: &mut FaultHint, line: &[u8], name: &[u8], operands:
             b'A' => hint.put_front(operand_at(operands, 0), MOST_OF_NAME),
             b'B' => hint.put_front(operand_at(operands, 1), MOST_OF_NAME),
             b'C' => hint.put_front(operand_at(operands, 2), MOST_OF_NAME),
+            b'D' => hint.put_front(address_of(operand_at(operands, 1)).0, MOST_OF_NAME),
+            b'E' => hint.put_front(address_of(operand_at(operands, 1)).1, MOST_OF_NAME),
             b'O' => hint.put_front(name, MOST_OF_NAME),
             b'H' => put_half(hint, operand_at(operands, 1), true),
             b'L' => put_half(hint, operand_at(operands, 1), false),
@@ -183,6 +188,14 @@ pub(crate) fn put_line(hint: &mut FaultHint, line: &[u8], name: &[u8], operands:
             other => hint.put(other),
         }
     }
+}
+
+/// The offset and the base of an address.
+fn address_of(operand: &[u8]) -> (&[u8], &[u8]) {
+    let (offset, rest) = cut(operand, place_of(operand, b'(').unwrap_or(0));
+    let inside = skip_blanks(behind(rest, 1));
+    let (base, _) = cut(inside, place_of(inside, b')').unwrap_or(0));
+    (trim_end(offset), trim_end(base))
 }
 
 /// Puts a half of a number at the end, the high one or the low one.

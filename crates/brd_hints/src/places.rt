@@ -1,6 +1,7 @@
 //! Names and places of a source: what is twice, what has no value, and where lines stand, as the assembler lays it out.
 
 use crate::finding::Finding;
+use crate::instead::line_for;
 use crate::operations::{half_of, range_of};
 use crate::scan::{before_comma, behind, behind_commas, count, first, run, skip_blanks, token};
 use crate::statements::{Parts, behind_label};
@@ -197,6 +198,10 @@ pub(crate) fn ranged<'a>(site: &Site<'a>) -> Option<Finding<'a>> {
     let value = without_base(before_comma(rest));
     let template = half_of(parts.operation?, value).or(range_of(parts.operation?))?;
     let found = Finding::at(rest, template, parts.word).with_other(value);
+    if let Some(line) = line_for(parts.word, parts.operands) {
+        let template = b"the offset of ~ is -32768 to 32767, found ^: write |";
+        return Some(Finding { template, ..found }.with_line(line, parts.word, parts.operands));
+    }
     Some(match number(value) {
         Some(word) => found.with_address(word as u64 / 0x1_0000),
         None => found,
