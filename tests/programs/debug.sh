@@ -298,6 +298,20 @@ printf '%s\n' ok 'at 13000' 'at 8192' 'pc 80000008' '$29 80010000' 'at 8187' 'at
     '$29 80010000' 'at 8197' > "$work/wanted"
 debug "moves to positions that have a snapshot" 0 "$work/wanted" "" "$work/image" $long/config.cfg $long/journal
 
+# On a terminal the commands are listed beside the answer to what is none, and elsewhere they aren't.
+if have python3 "debug: help on a terminal"; then
+    tests/programs/terminal "typed help" "$work/out" \
+        "$board" debug "$work/image" $long/config.cfg $long/journal > "$work/shown"
+    got=$?
+    wrong=$([ $got = 0 ] || echo "; status $got")
+    [ "$(cat "$work/out")" = unknown ] || wrong="$wrong; the output is $(head -c 600 "$work/out")"
+    grep -q 'commands: goto N, next, back, ' "$work/shown" || wrong="$wrong; it shows $(head -c 600 "$work/shown")"
+    verdict "debug: help on a terminal" "$wrong"
+fi
+echo help > "$work/in"
+echo unknown > "$work/wanted"
+debug "help where no terminal is" 0 "$work/wanted" "" "$work/image" $long/config.cfg $long/journal
+
 # Memory, also where snapshots are taken and played from.
 printf '%s\n' 'break 80000008' next 'regs 1' 'watch 80000000' 'goto 10' back 'mem 80000000' 'goto 5000001' stop \
     'goto 9000' next back 'goto 4097' back 'goto 8200' back > "$work/in"
