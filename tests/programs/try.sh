@@ -126,7 +126,9 @@ verdict "try: mistakes in five lines" "$wrong"
 for ((line = 1; line <= 30; line++)); do echo "x$line: addiu \$t0, \$t0"; done > "$work/many.s"
 "$board" try "$work/many.s" > "$work/out" 2> "$work/err"
 wrong=$(differs 1 "$work/nothing" $?)
-[ "$(wc -l < "$work/err")" = 20 ] || wrong="$wrong; $(wc -l < "$work/err") are told"
+[ "$(wc -l < "$work/err")" = 21 ] || wrong="$wrong; $(wc -l < "$work/err") are told"
+[ "$(tail -n 1 "$work/err")" = "board: and more: these are the first 20 mistakes of the source" ] ||
+    wrong="$wrong; the last line is $(tail -n 1 "$work/err")"
 verdict "try: twenty mistakes of thirty" "$wrong"
 # Refusals.
 : > "$work/wanted"
