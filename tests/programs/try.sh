@@ -11,12 +11,13 @@ tries() {
 }
 
 # tells NAME PATTERN ARGUMENT..: runs it, and looks for a line of its output that is this extended regular expression.
+# Beside warnings nothing is on standard error.
 tells() {
     local got wrong=
     "$board" try "${@:3}" < /dev/null > "$work/out" 2> "$work/err"
     got=$?
     [ $got = 0 ] || wrong="status $got"
-    [ -s "$work/err" ] && wrong="$wrong; $(cat "$work/err")"
+    grep -qv '^board: warning: ' "$work/err" && wrong="$wrong; $(cat "$work/err")"
     grep -qxE -- "$2" "$work/out" || wrong="$wrong; no line is '$2': $(cat "$work/out")"
     verdict "try: $1" "$wrong"
 }
