@@ -269,12 +269,24 @@ class Report:
             [f"processor {it[1]} runs {it[2] or f'{it[3]} at {it[4]}'}" for it in found if it]
 
 
+def asked(words, is_quiet):
+    """What `board` answers. What it warns of at the end of a run the kit says in its own words: it isn't handed on, but
+    on a terminal, where `board` says how far a long run is, unless that is to be quiet."""
+    if sys.stderr.isatty() and not is_quiet:
+        return subprocess.run(words, stdout=subprocess.PIPE, check=False)
+    ran = subprocess.run(words, stdout=subprocess.PIPE, stderr=subprocess.PIPE, check=False)
+    said = [it for it in ran.stderr.splitlines(True) if not it.startswith(b"board: warning: the run: ")]
+    sys.stderr.write(b"".join(said).decode(errors="replace"))
+    sys.stderr.flush()
+    return ran
+
+
 class Program:
     """A program with its configuration, and with the data of a journal."""
 
     def __init__(self, board, image, config, journal):
         self.board, self.image, self.config, self.data = board, image, config, data_beside(journal)
-        self.objects = Objects(config)
+        self.objects, self.is_quiet = Objects(config), False
         look_for(board, image)
         with open(image, "rb") as file:
             self.is_little = file.read(6)[5:] == b"\1"
@@ -296,13 +308,12 @@ class Program:
 
     def run(self, journal):
         """The report of a journal, or nothing where it has a fault, which `board` tells."""
-        ran = subprocess.run([self.board, "run", self.image, self.config, journal, *self.data], stdout=subprocess.PIPE,
-                             check=False)
+        ran = asked([self.board, "run", self.image, self.config, journal, *self.data], self.is_quiet)
         return Report(ran.stdout) if ran.returncode == 0 else None
 
     def traced(self, journal, *options):
-        return subprocess.run([self.board, "trace", self.image, self.config, journal, *self.data, *options],
-                              stdout=subprocess.PIPE, check=False).stdout.decode(errors="replace")
+        words = [self.board, "trace", self.image, self.config, journal, *self.data, *options]
+        return asked(words, self.is_quiet or "--summary" in options).stdout.decode(errors="replace")
 
     def has_trace(self):
         listed = subprocess.run([self.board, "--help"], stdout=subprocess.PIPE, check=False).stdout.decode()
