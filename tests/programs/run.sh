@@ -28,6 +28,13 @@ added() {
 added 2 10000 tests/data/locked/two.cfg "00 00 00 64"
 added 8 40000 tests/data/locked/eight.cfg "00 00 01 90"
 
+# A task that has ended by an exception.
+example=examples/fault/fault
+"$board" asm $example.s "$work/image" 2> "$work/err" || fail "run: a fault" "$(cat "$work/err")"
+"$board" run "$work/image" $example.cfg $example.journal > "$work/out" 2> "$work/err"
+check "run: a task that has ended by an exception" 0 $example.report \
+    "board: warning: the run: task 1 has ended by an exception, AdEL at 0x80000008: trace --summary says more" $?
+
 # The files are opened in the order of the arguments, before any is read.
 lay hello many_steps_in_a_row
 hello=$laid/hello
