@@ -23,14 +23,17 @@ ends_line bytes = ends_from true bytes
 abbrev pub whole_text : List ℕ → List ℕ
 whole_text bytes = bytes ++ (if ends_line bytes then [] else 10 ∷ [])
 
--- The same of a console that has at most 1,600 bytes, as 20 lines of 80; else its front, and how many bytes come behind.
-abbrev pub more_text : ℕ → List ℕ
+-- how many bytes come behind those of a console that are shown
+unfoldable pub more_text : ℕ → List ℕ
 more_text count = codes "(and " ++ decimal count ++ codes " bytes more: --keep, and board run shows them)\n"
 
+-- the first 1,600 bytes of a console, as 20 lines of 80, and how many come behind
+unfoldable pub cut_text : List ℕ → List ℕ
+cut_text bytes = whole_text (take 1600 bytes) ++ more_text (length bytes - 1600)
+
+-- a console's bytes, all where there are at most so many
 abbrev pub console_text : List ℕ → List ℕ
-console_text bytes =
-    if nat_lt 1600 (length bytes) then whole_text (take 1600 bytes) ++ more_text (length bytes - 1600)
-    else whole_text bytes
+console_text bytes = if nat_lt 1600 (length bytes) then cut_text bytes else whole_text bytes
 
 -- digits without the zeros in front
 abbrev pub trimmed : List ℕ → List ℕ

@@ -1,6 +1,6 @@
 //! What is told of a board that has taken turns.
 
-ghost use Rattle.std.specs.Prelude.{◌≡◌, ◌++◌, ◌∷◌, IfOk, OnOk};
+ghost use Rattle.std.specs.Prelude.{◌≡◌, ◌++◌, ◌∷◌, ◌<◌, length, take, IfOk, OnOk};
 ghost use Rattle.brd_try.specs.Told as telling;
 ghost use Rattle.brd_try.specs.Told.{IsTold, IsWhy};
 
@@ -64,15 +64,34 @@ pub(crate) fn why(
 fn put_console(alloc: Global, out: &mut Vec<u8>, bytes: &[u8]) -> Result<(), NoMemory>
     ensures { OnOk result (out.new.items ≡ out.old.items ++ telling.console_text bytes.now) }
 {
-    if bytes.len() <= MOST_OF_CONSOLE {
-        return put_whole(out, bytes);
+    if bytes.len() > MOST_OF_CONSOLE {
+        put_cut(alloc, out, bytes)
+    } else {
+        put_whole(out, bytes)
     }
-    let (front, rest) = bytes.split_at(MOST_OF_CONSOLE);
-    put_whole(out, front)?;
-    put_more(alloc, out, rest.len())
+}
+
+/// Puts the front of a console's bytes at the end, and says how many more there are.
+#[tactic(auto, unfolding(crate::specs::Told::cut_text))]
+fn put_cut(alloc: Global, out: &mut Vec<u8>, bytes: &[u8]) -> Result<(), NoMemory>
+    requires { 1600 < length bytes.now }
+    ensures { OnOk result (out.new.items ≡ out.old.items ++ telling.cut_text bytes.now) }
+{
+    put_whole(out, front_of(bytes))?;
+    put_more(alloc, out, bytes.len() - MOST_OF_CONSOLE)
+}
+
+/// The front of a console's bytes.
+fn front_of(bytes: &[u8]) -> &[u8]
+    requires { 1600 < length bytes.now }
+    ensures { result.now ≡ take 1600 bytes.now }
+{
+    let (front, _) = bytes.split_at(MOST_OF_CONSOLE);
+    front
 }
 
 /// Puts at the end how many more bytes a console has.
+#[tactic(auto, unfolding(crate::specs::Told::more_text))]
 fn put_more(alloc: Global, out: &mut Vec<u8>, count: usize) -> Result<(), NoMemory>
     ensures { OnOk result (out.new.items ≡ out.old.items ++ telling.more_text count) }
 {

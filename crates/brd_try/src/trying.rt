@@ -42,12 +42,12 @@ pub fn try_object(alloc: Global, object: &[u8], options: TryOptions) -> Result<T
     let Some(cpus) = processors(options.cpus) else {
         return Err(CommandFault::Schedule(ScheduleFault::Processors));
     };
-    let text = config_of(alloc, cpus, object)?;
+    let config = config_of(alloc, cpus, object)?;
     let Loaded {
         board,
         image,
-        config,
-    } = match made_board(alloc, object, &text) {
+        config: parsed,
+    } = match made_board(alloc, object, &config) {
         Ok(loaded) => loaded,
         Err(fault) => return Err(fault),
     };
@@ -56,11 +56,11 @@ pub fn try_object(alloc: Global, object: &[u8], options: TryOptions) -> Result<T
         Err(fault) => return Err(fault),
     };
     let journal = turned.journal.write_text(alloc)?;
-    let told = text_of(alloc, &image, &config, board, cpus, &turned)?;
+    let text = text_of(alloc, &image, &parsed, board, cpus, &turned)?;
     Ok(Tried {
-        config: text,
+        config,
         journal,
-        text: told,
+        text,
     })
 }
 
