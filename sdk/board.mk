@@ -214,7 +214,7 @@ ci: all
 	    '$(REPORTS)' $(BUILD) $(BOARD) $(BUILD)/$(it).elf $(BUILD)/$(it).cfg $(call journals,$(it)) || status=1;) exit $$status
 
 # The options of `board` for the data of JOURNAL.
-data = $$($(SDK)/data $(JOURNAL))
+laid = $$($(SDK)/data $(JOURNAL))
 
 accept: all
 	@$(call tests,--accept --jobs '$(JOBS)')
@@ -224,13 +224,13 @@ run: all
 
 debug: all
 	@$(SDK)/ordered $(IMAGE) $(JOURNAL) > $(BUILD)/debug.journal
-	@$(SDK)/debug $(BOARD) $(IMAGE) $(CONFIGURATION) $(BUILD)/debug.journal $(data)
+	@$(SDK)/debug $(BOARD) $(IMAGE) $(CONFIGURATION) $(BUILD)/debug.journal $(laid)
 
 # For editors that start GDB by themselves: what GDB's `target remote |` is given.
 gdb-server: all
 	@$(SDK)/ordered $(IMAGE) $(JOURNAL) > $(BUILD)/debug.journal
 	@printf '%s\n' '#!/bin/sh' "cd '$(CURDIR)'" \
-	    "exec '$(BOARD)' gdb '$(IMAGE)' '$(CONFIGURATION)' '$(BUILD)/debug.journal' $(data)" > $(BUILD)/gdb-server
+	    "exec '$(BOARD)' gdb '$(IMAGE)' '$(CONFIGURATION)' '$(BUILD)/debug.journal' $(laid)" > $(BUILD)/gdb-server
 	@chmod +x $(BUILD)/gdb-server
 	@echo $(BUILD)/gdb-server
 
@@ -241,11 +241,11 @@ settings:
 
 gdb: all
 	@$(SDK)/ordered $(IMAGE) $(JOURNAL) > $(BUILD)/debug.journal
-	@GDB='$(GDB)' BOARD_DATA="$(data)" $(SDK)/gdb $(BOARD) $(IMAGE) $(CONFIGURATION) $(BUILD)/debug.journal $(GDBFLAGS)
+	@GDB='$(GDB)' BOARD_DATA="$(laid)" $(SDK)/gdb $(BOARD) $(IMAGE) $(CONFIGURATION) $(BUILD)/debug.journal $(GDBFLAGS)
 
 # What `board trace` says of JOURNAL, which is taken for the program's byte order, with names and lines of C.
 traced = $(SDK)/ordered $(IMAGE) $(JOURNAL) > $(BUILD)/trace.journal && \
-    $(SDK)/named $(IMAGE) $(CONFIGURATION) $(BOARD) trace $1 $(IMAGE) $(CONFIGURATION) $(BUILD)/trace.journal $(data)
+    $(SDK)/named $(IMAGE) $(CONFIGURATION) $(BOARD) trace $1 $(IMAGE) $(CONFIGURATION) $(BUILD)/trace.journal $(laid)
 
 trace: all
 	@$(call traced,$(TRACEFLAGS))
