@@ -34,10 +34,10 @@ use Rattle.brd_config.specs.declared.statement.SpinLockStatement.{SpinLockStatem
 use Rattle.brd_config.specs.declared.statement.HandlerStatement.{HandlerStatement}
 use Rattle.brd_config.specs.Configuration.{Configuration, IsWithin, IsTask, IsSemaphore, IsFlag, IsQueue, IsSpinLock, IsHandler, IsConfiguration}
 use Rattle.brd_config.specs.Statements.{statement_at}
-use Rattle.brd_config.specs.Meaning.{State, within, only_bits, task_numbers, task_of, semaphore_of, flag_of, queue_of, spin_lock_of, handler_of, added, processor_of, is_end, one_more, statement_step, statements_from, board_of, first_board, first_statement, config_of}
+use Rattle.brd_config.specs.Meaning.{State, within, only_bits, task_numbers, task_of, semaphore_of, flag_of, queue_of, spin_lock_of, handler_of, added, processor_of, is_end, one_more, statement_step, statements_from, board_of, first_board, first_statement, has_profile, opened, config_from, config_of}
 use Rattle.brd_config.proofs.RamSize.{ram_again}
 use Rattle.brd_config.specs.Grammar.Piece.{Exactly, Sign, Numeral, Attributes, Value, StackValue, Area, ClassName}
-use Rattle.brd_config.specs.Grammar.{Piece, IsSpelled, AreSpelled, form, IsText, tasks_of, semaphores_of, flags_of, queues_of, spin_locks_of, handlers_of, task_said, semaphore_said, flag_said, queue_said, spin_lock_said, handler_said, said, AreNested, AreValid, Says}
+use Rattle.brd_config.specs.Grammar.{Piece, IsSpelled, AreSpelled, form, profile_form, IsText, tasks_of, semaphores_of, flags_of, queues_of, spin_locks_of, handlers_of, task_said, semaphore_said, flag_said, queue_said, spin_lock_said, handler_said, said, AreNested, AreValid, Says}
 use Rattle.brd_config.proofs.Forms.{Ahead, MayStand, exactly_step, first_sign, object_pieces, bare_object_pieces, board_again, statement_again}
 
 -- ---- lists
@@ -124,6 +124,7 @@ handler_again line handlers ys processors processor t bits v apart =
 
 -- What is said so far, and by the statements that follow, comes to the whole.
 pub record Leads (whole c : Configuration) (class : Option ℕ) (ss : List Statement) : Type 0 where
+  pub standard : whole.standard ≡ c.standard
   pub processors : whole.processors ≡ c.processors
   pub ram : whole.ram ≡ c.ram
   pub tasks : whole.tasks ≡ c.tasks ++ tasks_of class ss
@@ -149,13 +150,13 @@ goes_on line whole c class (Board processors ram) ss valid l nested = absurd nes
 goes_on line whole c class (Class n) ss valid l nested = record {
   state = record { config = c; class = Some n };
   accepted = rw (within_again 1 c.processors (BadProcessor line) n nested.1) refl;
-  leads = record { processors = l.processors; ram = l.ram; tasks = l.tasks; semaphores = l.semaphores; flags = l.flags; queues = l.queues; spin_locks = l.spin_locks; handlers = l.handlers };
+  leads = record { standard = l.standard; processors = l.processors; ram = l.ram; tasks = l.tasks; semaphores = l.semaphores; flags = l.flags; queues = l.queues; spin_locks = l.spin_locks; handlers = l.handlers };
   nested = nested.2;
 }
 goes_on line whole c class ClassEnd ss valid l nested = record {
   state = record { config = c; class = None };
   accepted = refl;
-  leads = record { processors = l.processors; ram = l.ram; tasks = l.tasks; semaphores = l.semaphores; flags = l.flags; queues = l.queues; spin_locks = l.spin_locks; handlers = l.handlers };
+  leads = record { standard = l.standard; processors = l.processors; ram = l.ram; tasks = l.tasks; semaphores = l.semaphores; flags = l.flags; queues = l.queues; spin_locks = l.spin_locks; handlers = l.handlers };
   nested = nested.1;
 }
 goes_on line whole c class (Task x) ss valid l nested =
@@ -164,7 +165,7 @@ goes_on line whole c class (Task x) ss valid l nested =
     record {
       state = record { config = record c { tasks = c.tasks ++ (task_said (processor_of class) x) ∷ [] }; class = class };
       accepted = rw (task_again line c.tasks (tasks_of class ss) whole.processors (processor_of class) x one apart) refl;
-      leads = record { processors = l.processors; ram = l.ram; tasks = l.tasks ∙ regroup c.tasks (task_said (processor_of class) x) (tasks_of class ss); semaphores = l.semaphores; flags = l.flags; queues = l.queues; spin_locks = l.spin_locks; handlers = l.handlers };
+      leads = record { standard = l.standard; processors = l.processors; ram = l.ram; tasks = l.tasks ∙ regroup c.tasks (task_said (processor_of class) x) (tasks_of class ss); semaphores = l.semaphores; flags = l.flags; queues = l.queues; spin_locks = l.spin_locks; handlers = l.handlers };
       nested = nested;
     }
 goes_on line whole c class (Semaphore x) ss valid l nested =
@@ -173,7 +174,7 @@ goes_on line whole c class (Semaphore x) ss valid l nested =
     record {
       state = record { config = record c { semaphores = c.semaphores ++ (semaphore_said x) ∷ [] }; class = class };
       accepted = rw (semaphore_again line c.semaphores (semaphores_of ss) x one apart) refl;
-      leads = record { processors = l.processors; ram = l.ram; tasks = l.tasks; semaphores = l.semaphores ∙ regroup c.semaphores (semaphore_said x) (semaphores_of ss); flags = l.flags; queues = l.queues; spin_locks = l.spin_locks; handlers = l.handlers };
+      leads = record { standard = l.standard; processors = l.processors; ram = l.ram; tasks = l.tasks; semaphores = l.semaphores ∙ regroup c.semaphores (semaphore_said x) (semaphores_of ss); flags = l.flags; queues = l.queues; spin_locks = l.spin_locks; handlers = l.handlers };
       nested = nested;
     }
 goes_on line whole c class (Flag x) ss valid l nested =
@@ -182,7 +183,7 @@ goes_on line whole c class (Flag x) ss valid l nested =
     record {
       state = record { config = record c { flags = c.flags ++ (flag_said x) ∷ [] }; class = class };
       accepted = rw (flag_again line c.flags (flags_of ss) x one apart) refl;
-      leads = record { processors = l.processors; ram = l.ram; tasks = l.tasks; semaphores = l.semaphores; flags = l.flags ∙ regroup c.flags (flag_said x) (flags_of ss); queues = l.queues; spin_locks = l.spin_locks; handlers = l.handlers };
+      leads = record { standard = l.standard; processors = l.processors; ram = l.ram; tasks = l.tasks; semaphores = l.semaphores; flags = l.flags ∙ regroup c.flags (flag_said x) (flags_of ss); queues = l.queues; spin_locks = l.spin_locks; handlers = l.handlers };
       nested = nested;
     }
 goes_on line whole c class (Queue x) ss valid l nested =
@@ -191,7 +192,7 @@ goes_on line whole c class (Queue x) ss valid l nested =
     record {
       state = record { config = record c { queues = c.queues ++ (queue_said x) ∷ [] }; class = class };
       accepted = rw (queue_again line c.queues (queues_of ss) x one apart) refl;
-      leads = record { processors = l.processors; ram = l.ram; tasks = l.tasks; semaphores = l.semaphores; flags = l.flags; queues = l.queues ∙ regroup c.queues (queue_said x) (queues_of ss); spin_locks = l.spin_locks; handlers = l.handlers };
+      leads = record { standard = l.standard; processors = l.processors; ram = l.ram; tasks = l.tasks; semaphores = l.semaphores; flags = l.flags; queues = l.queues ∙ regroup c.queues (queue_said x) (queues_of ss); spin_locks = l.spin_locks; handlers = l.handlers };
       nested = nested;
     }
 goes_on line whole c class (SpinLock x) ss valid l nested =
@@ -200,7 +201,7 @@ goes_on line whole c class (SpinLock x) ss valid l nested =
     record {
       state = record { config = record c { spin_locks = c.spin_locks ++ (spin_lock_said x) ∷ [] }; class = class };
       accepted = rw (spin_lock_again line c.spin_locks (spin_locks_of ss) x nested.0 one apart) refl;
-      leads = record { processors = l.processors; ram = l.ram; tasks = l.tasks; semaphores = l.semaphores; flags = l.flags; queues = l.queues; spin_locks = l.spin_locks ∙ regroup c.spin_locks (spin_lock_said x) (spin_locks_of ss); handlers = l.handlers };
+      leads = record { standard = l.standard; processors = l.processors; ram = l.ram; tasks = l.tasks; semaphores = l.semaphores; flags = l.flags; queues = l.queues; spin_locks = l.spin_locks ∙ regroup c.spin_locks (spin_lock_said x) (spin_locks_of ss); handlers = l.handlers };
       nested = nested.1;
     }
 goes_on line whole c class (Handler x) ss valid l nested =
@@ -209,7 +210,7 @@ goes_on line whole c class (Handler x) ss valid l nested =
     record {
       state = record { config = record c { handlers = c.handlers ++ (handler_said (processor_of class) x) ∷ [] }; class = class };
       accepted = rw (handler_again line c.handlers (handlers_of class ss) whole.processors (processor_of class) x nested.0 one apart) refl;
-      leads = record { processors = l.processors; ram = l.ram; tasks = l.tasks; semaphores = l.semaphores; flags = l.flags; queues = l.queues; spin_locks = l.spin_locks; handlers = l.handlers ∙ regroup c.handlers (handler_said (processor_of class) x) (handlers_of class ss) };
+      leads = record { standard = l.standard; processors = l.processors; ram = l.ram; tasks = l.tasks; semaphores = l.semaphores; flags = l.flags; queues = l.queues; spin_locks = l.spin_locks; handlers = l.handlers ∙ regroup c.handlers (handler_said (processor_of class) x) (handlers_of class ss) };
       nested = nested.1;
     }
 
@@ -272,12 +273,12 @@ and_false : (b : Bool) → (b && false) ≡ false
 and_false true = refl
 and_false false = refl
 
-abbrev entry : ℕ → ℕ → List TaskConfig → List SemaphoreConfig → List FlagConfig → List QueueConfig → List SpinLockConfig → List HandlerConfig → Configuration
-entry p r ts ss fs qs ls hs = record { processors = p; ram = r; tasks = ts; semaphores = ss; flags = fs; queues = qs; spin_locks = ls; handlers = hs }
+abbrev entry : Bool → ℕ → ℕ → List TaskConfig → List SemaphoreConfig → List FlagConfig → List QueueConfig → List SpinLockConfig → List HandlerConfig → Configuration
+entry b p r ts ss fs qs ls hs = record { standard = b; processors = p; ram = r; tasks = ts; semaphores = ss; flags = fs; queues = qs; spin_locks = ls; handlers = hs }
 
-same : (p q : ℕ) → p ≡ q → (r s : ℕ) → r ≡ s → (ts us : List TaskConfig) → ts ≡ us → (ss vs : List SemaphoreConfig) → ss ≡ vs → (fs gs : List FlagConfig) → fs ≡ gs → (qs rs : List QueueConfig) → qs ≡ rs → (ls ms : List SpinLockConfig) → ls ≡ ms → (hs ks : List HandlerConfig) → hs ≡ ks
-    → entry p r ts ss fs qs ls hs ≡ entry q s us vs gs rs ms ks
-same p q e0 r s e1 ts us e2 ss vs e3 fs gs e4 qs rs e5 ls ms e6 hs ks e7 = rw (e0, e1, e2, e3, e4, e5, e6, e7) refl
+same : (a b : Bool) → a ≡ b → (p q : ℕ) → p ≡ q → (r s : ℕ) → r ≡ s → (ts us : List TaskConfig) → ts ≡ us → (ss vs : List SemaphoreConfig) → ss ≡ vs → (fs gs : List FlagConfig) → fs ≡ gs → (qs rs : List QueueConfig) → qs ≡ rs → (ls ms : List SpinLockConfig) → ls ≡ ms → (hs ks : List HandlerConfig) → hs ≡ ks
+    → entry a p r ts ss fs qs ls hs ≡ entry b q s us vs gs rs ms ks
+same a b e p q e0 r s e1 ts us e2 ss vs e3 fs gs e4 qs rs e5 ls ms e6 hs ks e7 = rw (e, e0, e1, e2, e3, e4, e5, e6, e7) refl
 
 -- one turn over a statement
 step_again : (c : Configuration) (class : Option ℕ) (x : Statement) (next : State) (t u : Text) → is_end (first t).token ≡ false → statement_at (is_some class) t ≡ Ok (x, u) → added (first t).line (record { config = c; class = class }) x ≡ Ok next
@@ -298,7 +299,7 @@ all_said whole c class l =
     let queues = l.queues ∙ append-nil c.queues in
     let spin_locks = l.spin_locks ∙ append-nil c.spin_locks in
     let handlers = l.handlers ∙ append-nil c.handlers in
-    sym (same whole.processors c.processors l.processors whole.ram c.ram l.ram whole.tasks c.tasks tasks whole.semaphores c.semaphores semaphores whole.flags c.flags flags whole.queues c.queues queues whole.spin_locks c.spin_locks spin_locks whole.handlers c.handlers handlers)
+    sym (same whole.standard c.standard l.standard whole.processors c.processors l.processors whole.ram c.ram l.ram whole.tasks c.tasks tasks whole.semaphores c.semaphores semaphores whole.flags c.flags flags whole.queues c.queues queues whole.spin_locks c.spin_locks spin_locks whole.handlers c.handlers handlers)
 
 run_again : (whole c : Configuration) (class : Option ℕ) (ss : List Statement) (t : Text) → IsConfiguration whole → Leads whole c class ss → AreNested c.processors class ss → AreSpelled (flat_map form ss) (bare_tokens t)
     → repeated NoMemory statement_step (suc (length ss)) (record { config = c; class = class }, t) ≡ Ok whole
@@ -356,31 +357,61 @@ enough (x ∷ ss) tokens s =
 -- ---- the first statement
 
 -- a board alone
-abbrev pub started : ℕ → ℕ → Configuration
-started processors ram = record { processors = processors; ram = ram; tasks = []; semaphores = []; flags = []; queues = []; spin_locks = []; handlers = [] }
+abbrev pub started : Bool → ℕ → ℕ → Configuration
+started standard processors ram = record { standard = standard; processors = processors; ram = ram; tasks = []; semaphores = []; flags = []; queues = []; spin_locks = []; handlers = [] }
 
-board_of_again : (line processors ram : ℕ) → IsWithin 1 8 processors → IsRamSize ram → board_of line processors ram ≡ Ok (started processors ram)
+board_of_again : (standard : Bool) (line processors ram : ℕ) → IsWithin 1 8 processors → IsRamSize ram → board_of standard line processors ram ≡ Ok (started standard processors ram)
 unfolding board_of
-board_of_again line processors ram v w = rw (within_again 1 8 (BadProcessor line) processors v, ram_again ram w) refl
+board_of_again standard line processors ram v w = rw (within_again 1 8 (BadProcessor line) processors v, ram_again ram w) refl
 
-first_again : (processors ram : ℕ) (ps : List Piece) (t : Text) → IsWithin 1 8 processors → IsRamSize ram → Ahead (form (Board processors ram) ++ ps) t → (u : Text) × (first_statement t ≡ Ok (record { config = started processors ram; class = None }, u)) × Ahead ps u
+first_again : (standard : Bool) (processors ram : ℕ) (ps : List Piece) (t : Text) → IsWithin 1 8 processors → IsRamSize ram → Ahead (form (Board processors ram) ++ ps) t → (u : Text) × (first_statement standard t ≡ Ok (record { config = started standard processors ram; class = None }, u)) × Ahead ps u
 unfolding first_statement first_board
-first_again processors ram ps t v w s =
+first_again standard processors ram ps t v w s =
     let f = exactly_step (codes "BOARD") (Sign 40 ∷ Numeral processors ∷ Sign 44 ∷ Numeral ram ∷ Sign 41 ∷ Sign 59 ∷ ps) t s in
     let b = board_again processors ram ps (others t) f.1 in
-    (b.0, rw (f.0, b.1, board_of_again (first t).line processors ram v w) refl, b.2)
+    (b.0, rw (f.0, b.1, board_of_again standard (first t).line processors ram v w) refl, b.2)
 
-pub config_again : (bytes : List ℕ) (processors ram : ℕ) (ss : List Statement) → IsText bytes (Board processors ram ∷ ss) → AreValid processors ram ss → config_of bytes ≡ Ok (said processors ram ss)
-unfolding config_of statements_from
-config_again bytes processors ram ss text valid =
+-- ---- the profile
+
+-- where no profile stands at the front, but BOARD
+board_opens : (ps : List Piece) (t : Text) → Ahead (Exactly (codes "BOARD") ∷ ps) t → opened t ≡ (false, t)
+unfolding opened has_profile
+board_opens ps t s = rw (exactly_step (codes "BOARD") ps t s).0 refl
+
+-- the text from BOARD on
+opened_again : (standard : Bool) (ps : List Piece) (t : Text) → Ahead (profile_form standard ++ Exactly (codes "BOARD") ∷ ps) t → (u : Text) × (opened t ≡ (standard, u)) × Ahead (Exactly (codes "BOARD") ∷ ps) u
+unfolding opened has_profile
+opened_again false ps t s = (t, board_opens ps t s, s)
+opened_again true ps t s =
+    let rest = Exactly (codes "BOARD") ∷ ps in
+    let a = exactly_step (codes "PROFILE") (Sign 40 ∷ Exactly (codes "STANDARD") ∷ Sign 41 ∷ Sign 59 ∷ rest) t s in
+    let t1 = others t in
+    let b = first_sign 40 (Exactly (codes "STANDARD") ∷ Sign 41 ∷ Sign 59 ∷ rest) t1 a.1 in
+    let t2 = others t1 in
+    let c = exactly_step (codes "STANDARD") (Sign 41 ∷ Sign 59 ∷ rest) t2 b.1 in
+    let t3 = others t2 in
+    let d = first_sign 41 (Sign 59 ∷ rest) t3 c.1 in
+    let t4 = others t3 in
+    let e = first_sign 59 rest t4 d.1 in
+    (others t4, rw (a.0, b.0, c.0, d.0, e.0) refl, e.1)
+
+from_board : (standard : Bool) (processors ram : ℕ) (ss : List Statement) (t : Text) → Ahead (flat_map form (Board processors ram ∷ ss)) t → AreValid standard processors ram ss → config_from (standard, t) ≡ Ok (said standard processors ram ss)
+unfolding config_from statements_from
+from_board standard processors ram ss t s valid =
+    let f = first_again standard processors ram (flat_map form ss) t valid.values.processors valid.values.ram s in
+    let leads : Leads (said standard processors ram ss) (started standard processors ram) None ss = record { standard = refl; processors = refl; ram = refl; tasks = refl; semaphores = refl; flags = refl; queues = refl; spin_locks = refl; handlers = refl } in
+    let run = run_again (said standard processors ram ss) (started standard processors ram) None ss f.0 valid.values leads valid.nested f.2 in
+    let long : suc (length ss) ≤ suc (length f.0.tokens) = omega (arith, enough ss (bare_tokens f.0) f.2, length-map f.0.tokens (λ p. p.token)) in
+    rw f.1 (more_turns NoMemory statement_step (suc (length ss)) (suc (length f.0.tokens)) (record { config = started standard processors ram; class = None }, f.0) (said standard processors ram ss) long run)
+
+pub config_again : (bytes : List ℕ) (standard : Bool) (processors ram : ℕ) (ss : List Statement) → IsText bytes standard (Board processors ram ∷ ss) → AreValid standard processors ram ss → config_of bytes ≡ Ok (said standard processors ram ss)
+unfolding config_of
+config_again bytes standard processors ram ss text valid =
     let t = tokens_of bytes in
     let tokens : bare_tokens t ≡ text.0 = spelled 1 bytes text.0 text.1 in
-    let s : AreSpelled (flat_map form (Board processors ram ∷ ss)) (bare_tokens t) = subst (AreSpelled (flat_map form (Board processors ram ∷ ss))) (sym tokens) text.2 in
-    let f = first_again processors ram (flat_map form ss) t valid.values.processors valid.values.ram s in
-    let leads : Leads (said processors ram ss) (started processors ram) None ss = record { processors = refl; ram = refl; tasks = refl; semaphores = refl; flags = refl; queues = refl; spin_locks = refl; handlers = refl } in
-    let run = run_again (said processors ram ss) (started processors ram) None ss f.0 valid.values leads valid.nested f.2 in
-    let long : suc (length ss) ≤ suc (length f.0.tokens) = omega (arith, enough ss (bare_tokens f.0) f.2, length-map f.0.tokens (λ p. p.token)) in
-    rw f.1 (more_turns NoMemory statement_step (suc (length ss)) (suc (length f.0.tokens)) (record { config = started processors ram; class = None }, f.0) (said processors ram ss) long run)
+    let s : AreSpelled (profile_form standard ++ flat_map form (Board processors ram ∷ ss)) (bare_tokens t) = subst (AreSpelled (profile_form standard ++ flat_map form (Board processors ram ∷ ss))) (sym tokens) text.2 in
+    let o = opened_again standard (Sign 40 ∷ Numeral processors ∷ Sign 44 ∷ Numeral ram ∷ Sign 41 ∷ Sign 59 ∷ flat_map form ss) t s in
+    rw o.1 (from_board standard processors ram ss o.0 o.2 valid)
 
 pub says_again : (bytes : List ℕ) (c : Configuration) → Says bytes c → config_of bytes ≡ Ok c
-says_again bytes c s = config_again bytes s.0 s.1 s.2 s.3 s.4 ∙ ap (λ (d : Configuration). Ok d) (sym s.5)
+says_again bytes c s = config_again bytes s.0 s.1 s.2 s.3 s.4 s.5 ∙ ap (λ (d : Configuration). Ok d) (sym s.6)

@@ -57,7 +57,7 @@ first_token t w some e = by_tokens t.tokens e
     by_tokens [] e = absurd (some (sym e))
     by_tokens (p ∷ ps) e = ap (λ (v : Token). v ∷ map (λ p. p.token) ps) e
 
-one_front : (p : Piece) (w : Token) (t u : Text) → (w ≡ End → ⊥) → IsSpelled p (w ∷ []) → (first t).token ≡ w → others t ≡ u → Front (p ∷ []) t u
+pub one_front : (p : Piece) (w : Token) (t u : Text) → (w ≡ End → ⊥) → IsSpelled p (w ∷ []) → (first t).token ≡ w → others t ≡ u → Front (p ∷ []) t u
 one_front p w t u some is e behind = record {
   front = w ∷ [];
   spelled = (w ∷ [], [], is, refl, refl);

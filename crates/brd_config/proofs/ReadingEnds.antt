@@ -31,7 +31,7 @@ use Rattle.brd_config.specs.declared.statement.SpinLockStatement.{SpinLockStatem
 use Rattle.brd_config.specs.declared.statement.HandlerStatement.{HandlerStatement}
 use Rattle.brd_config.specs.Statements.{keyword_of, board_at, class_at, task_tail_at, task_at, semaphore_at, flag_at, queue_at, spin_lock_at, handler_at, behind_keyword, statement_by, statement_at}
 use Rattle.brd_config.specs.Reading.{attribute_of, class_of, operand_of, stack_of, is_area, run_of, number_at, expect_mark, mark_at, attribute_at, expect_joint, joint_at, attribute_step, attributes_at, operand_at, stack_at, area_at, class_number_at, listed_number_at, listed_operand_at, head_at, tail_at}
-use Rattle.brd_config.specs.Meaning.{State, within, only_bits, refused, task_numbers, task_of, semaphore_of, flag_of, queue_of, spin_lock_of, handler_of, added, processor_of, is_end, is_board, one_more, statement_step, statements_from, board_of, first_board, first_statement, config_of}
+use Rattle.brd_config.specs.Meaning.{State, within, only_bits, refused, task_numbers, task_of, semaphore_of, flag_of, queue_of, spin_lock_of, handler_of, added, processor_of, is_end, is_board, one_more, statement_step, statements_from, board_of, first_board, first_statement, opened, config_from, config_of}
 use Rattle.brd_config.specs.Grammar.{Piece, Joined, IsSpelled, AreSpelled, form}
 use Rattle.brd_config.specs.Grammar.Piece.{Exactly, Sign, Numeral, Attributes, Value, StackValue, Area, ClassName}
 use Rattle.brd_config.specs.Grammar.Joined.{last, bar}
@@ -372,17 +372,21 @@ statements_end : (s : State × Text) → Ends (statements_from s)
 unfolding statements_from
 statements_end s = turns_end statement_step (λ (s : State × Text). length s.1.tokens) step_ends step_less (suc (length s.1.tokens)) s (omega arith)
 
-first_board_ends : (line : ℕ) (t : Text) → Ends (first_board line t)
+first_board_ends : (standard : Bool) (line : ℕ) (t : Text) → Ends (first_board standard line t)
 unfolding first_board board_of
-first_board_ends line t = board_ends t then λ board. (processor_ends line 8 board.0 then λ count. refused_ends _ (BadCount line) (λ e. cc) then λ sized. answer_ends _) then λ config. answer_ends _
+first_board_ends standard line t = board_ends t then λ board. (processor_ends line 8 board.0 then λ count. refused_ends _ (BadCount line) (λ e. cc) then λ sized. answer_ends _) then λ config. answer_ends _
 
-first_ends : (t : Text) → Ends (first_statement t)
+first_ends : (standard : Bool) (t : Text) → Ends (first_statement standard t)
 unfolding first_statement
-first_ends t = either_ends (is_board (first t).token) (first_board_ends (first t).line (others t)) (syntax_ends (first t).line)
+first_ends standard t = either_ends (is_board (first t).token) (first_board_ends standard (first t).line (others t)) (syntax_ends (first t).line)
+
+from_ends : (x : Bool × Text) → Ends (config_from x)
+unfolding config_from
+from_ends x = first_ends x.0 x.1 then λ s. statements_end s
 
 config_ends : (bytes : List ℕ) → Ends (config_of bytes)
 unfolding config_of
-config_ends bytes = first_ends (tokens_of bytes) then λ s. statements_end s
+config_ends bytes = from_ends (opened (tokens_of bytes))
 
 pub text_ends : (bytes : List ℕ) → config_of bytes ≢ Err NoMemory
 text_ends bytes = (config_ends bytes).never

@@ -1,8 +1,8 @@
 -- A text that is read spells valid statements, and these say what was read.
-use Rattle.std.proofs.Common.{◌≡◌, ℕ, zero, suc, Bool, true, false, cond, not, ◌&&◌, List, [], ◌∷◌, ◌++◌, length, map, Option, Some, None, Ok, Err, refl, sym, ap, subst, ◌∙◌, append_assoc, append-nil}
+use Rattle.std.proofs.Common.{◌≡◌, ℕ, zero, suc, Bool, true, false, cond, not, ◌&&◌, List, [], ◌∷◌, ◌++◌, length, map, Option, Some, None, Ok, Err, refl, sym, ap, subst, ◌∙◌, append_assoc, append-nil, arith}
 use Rattle.std.specs.Prelude.{is_some, is_none, codes}
 use Rattle.std.specs.List.{flat_map}
-use Rattle.std.proofs.lemmas.Bool.{and_parts}
+use Rattle.std.proofs.lemmas.Bool.{and_parts, eqb-true}
 use Rattle.std.proofs.lemmas.Slice.Eq.{bytes_eq-Decides}
 use Rattle.brd_text.specs.Tokens.{Token, Placed, Text, first, others, tokens_of}
 use Rattle.brd_text.specs.Tokens.Token.{Run, Mark, Unclosed, End}
@@ -23,12 +23,12 @@ use Rattle.brd_config.specs.declared.statement.Statement.{Statement}
 use Rattle.brd_config.specs.declared.statement.Statement.TheVariants.{Board, Class, ClassEnd, Task, Semaphore, Flag, Queue, SpinLock, Handler}
 use Rattle.brd_config.specs.Statements.{statement_at, board_at}
 use Rattle.brd_config.specs.Configuration.{Configuration, IsWithin, IsConfiguration}
-use Rattle.brd_config.specs.Meaning.{State, within, refused, is_ram_size, task_of, semaphore_of, flag_of, queue_of, spin_lock_of, handler_of, added, processor_of, is_end, is_board, one_more, statement_step, statements_from, board_of, first_board, first_statement, config_of}
-use Rattle.brd_config.specs.Grammar.{Piece, Joined, IsSpelled, AreSpelled, OneRun, form, IsOutside, IsInside, tasks_of, semaphores_of, flags_of, queues_of, spin_locks_of, handlers_of, task_said, semaphore_said, flag_said, queue_said, spin_lock_said, handler_said, said, AreNested, Says}
+use Rattle.brd_config.specs.Meaning.{State, within, refused, is_ram_size, task_of, semaphore_of, flag_of, queue_of, spin_lock_of, handler_of, added, processor_of, is_end, is_word, is_mark, is_board, one_more, statement_step, statements_from, board_of, first_board, first_statement, behind_profile, has_profile, opened, config_from, plain_config_of, config_of}
+use Rattle.brd_config.specs.Grammar.{Piece, Joined, IsSpelled, AreSpelled, OneRun, form, profile_form, IsOutside, IsInside, tasks_of, semaphores_of, flags_of, queues_of, spin_locks_of, handlers_of, task_said, semaphore_said, flag_said, queue_said, spin_lock_said, handler_said, said, AreNested, Says}
 use Rattle.brd_config.specs.Grammar.Piece.{Exactly, Sign, Numeral, Attributes, Value, StackValue, Area, ClassName}
 use Rattle.brd_config.specs.Grammar.Joined.{last, bar}
 use Rattle.brd_config.proofs.Forms.{MayStand}
-use Rattle.brd_config.proofs.FormsBack.{Front, ◌then◌, both_spelled, exactly, board_back, statement_back}
+use Rattle.brd_config.proofs.FormsBack.{Front, ◌then◌, both_spelled, one_front, exactly, board_back, statement_back}
 use Rattle.brd_config.proofs.SpelledBack.{AreClosed, AreTokens, spelled_back, are_tokens}
 use Rattle.brd_config.proofs.Validity.{IsState, one_ok, two_ok, within_ok, task_ok, semaphore_ok, flag_ok, queue_ok, spin_lock_ok, handler_ok, added_ok, first_ok, config_is_valid}
 use Rattle.brd_config.proofs.Accepted.{Leads, started, all_said}
@@ -102,46 +102,46 @@ goes_back line whole s next (Class n) ss is may e =
     let w = within_ok 1 s.config.processors (BadProcessor line) n p.0 p.1 in
     let same : record s { class = Some n } ≡ next = ap (λ (k : ℕ). record s { class = Some k }) (sym w.0) ∙ p.2 in
     subst (GoesBack whole s (Class n) ss) same
-    (λ l nested. (record { processors = l.processors; ram = l.ram; tasks = l.tasks; semaphores = l.semaphores; flags = l.flags; queues = l.queues; spin_locks = l.spin_locks; handlers = l.handlers }, (outside s.class may, subst (IsWithin 1 s.config.processors) w.0 w.1, nested)))
+    (λ l nested. (record { standard = l.standard; processors = l.processors; ram = l.ram; tasks = l.tasks; semaphores = l.semaphores; flags = l.flags; queues = l.queues; spin_locks = l.spin_locks; handlers = l.handlers }, (outside s.class may, subst (IsWithin 1 s.config.processors) w.0 w.1, nested)))
 goes_back line whole s next ClassEnd ss is may e =
     subst (GoesBack whole s ClassEnd ss) (ok_is (record s { class = None }) next e)
-    (λ l nested. (record { processors = l.processors; ram = l.ram; tasks = l.tasks; semaphores = l.semaphores; flags = l.flags; queues = l.queues; spin_locks = l.spin_locks; handlers = l.handlers }, (inside s.class may, nested)))
+    (λ l nested. (record { standard = l.standard; processors = l.processors; ram = l.ram; tasks = l.tasks; semaphores = l.semaphores; flags = l.flags; queues = l.queues; spin_locks = l.spin_locks; handlers = l.handlers }, (inside s.class may, nested)))
 goes_back line whole s next (Task x) ss is may e =
     let add : TaskConfig → State = λ made. record s { config = record s.config { tasks = s.config.tasks ++ made ∷ [] } } in
     let p = one_ok (task_of line s.config.tasks (processor_of s.class) x) add next e in
     let ok = task_ok line s.config.tasks s.config.processors (processor_of s.class) x p.0 is.class p.1 in
     subst (GoesBack whole s (Task x) ss) (ap add (sym ok.2) ∙ p.2)
-    (λ l nested. (record { processors = l.processors; ram = l.ram; tasks = l.tasks ∙ append_assoc s.config.tasks (task_said (processor_of s.class) x ∷ []) (tasks_of s.class ss); semaphores = l.semaphores; flags = l.flags; queues = l.queues; spin_locks = l.spin_locks; handlers = l.handlers }, nested))
+    (λ l nested. (record { standard = l.standard; processors = l.processors; ram = l.ram; tasks = l.tasks ∙ append_assoc s.config.tasks (task_said (processor_of s.class) x ∷ []) (tasks_of s.class ss); semaphores = l.semaphores; flags = l.flags; queues = l.queues; spin_locks = l.spin_locks; handlers = l.handlers }, nested))
 goes_back line whole s next (Semaphore x) ss is may e =
     let add : SemaphoreConfig → State = λ made. record s { config = record s.config { semaphores = s.config.semaphores ++ made ∷ [] } } in
     let p = one_ok (semaphore_of line s.config.semaphores x) add next e in
     let ok = semaphore_ok line s.config.semaphores x p.0 p.1 in
     subst (GoesBack whole s (Semaphore x) ss) (ap add (sym ok.2) ∙ p.2)
-    (λ l nested. (record { processors = l.processors; ram = l.ram; tasks = l.tasks; semaphores = l.semaphores ∙ append_assoc s.config.semaphores (semaphore_said x ∷ []) (semaphores_of ss); flags = l.flags; queues = l.queues; spin_locks = l.spin_locks; handlers = l.handlers }, nested))
+    (λ l nested. (record { standard = l.standard; processors = l.processors; ram = l.ram; tasks = l.tasks; semaphores = l.semaphores ∙ append_assoc s.config.semaphores (semaphore_said x ∷ []) (semaphores_of ss); flags = l.flags; queues = l.queues; spin_locks = l.spin_locks; handlers = l.handlers }, nested))
 goes_back line whole s next (Flag x) ss is may e =
     let add : FlagConfig → State = λ made. record s { config = record s.config { flags = s.config.flags ++ made ∷ [] } } in
     let p = one_ok (flag_of line s.config.flags x) add next e in
     let ok = flag_ok line s.config.flags x p.0 p.1 in
     subst (GoesBack whole s (Flag x) ss) (ap add (sym ok.2) ∙ p.2)
-    (λ l nested. (record { processors = l.processors; ram = l.ram; tasks = l.tasks; semaphores = l.semaphores; flags = l.flags ∙ append_assoc s.config.flags (flag_said x ∷ []) (flags_of ss); queues = l.queues; spin_locks = l.spin_locks; handlers = l.handlers }, nested))
+    (λ l nested. (record { standard = l.standard; processors = l.processors; ram = l.ram; tasks = l.tasks; semaphores = l.semaphores; flags = l.flags ∙ append_assoc s.config.flags (flag_said x ∷ []) (flags_of ss); queues = l.queues; spin_locks = l.spin_locks; handlers = l.handlers }, nested))
 goes_back line whole s next (Queue x) ss is may e =
     let add : QueueConfig → State = λ made. record s { config = record s.config { queues = s.config.queues ++ made ∷ [] } } in
     let p = one_ok (queue_of line s.config.queues x) add next e in
     let ok = queue_ok line s.config.queues x p.0 p.1 in
     subst (GoesBack whole s (Queue x) ss) (ap add (sym ok.2) ∙ p.2)
-    (λ l nested. (record { processors = l.processors; ram = l.ram; tasks = l.tasks; semaphores = l.semaphores; flags = l.flags; queues = l.queues ∙ append_assoc s.config.queues (queue_said x ∷ []) (queues_of ss); spin_locks = l.spin_locks; handlers = l.handlers }, nested))
+    (λ l nested. (record { standard = l.standard; processors = l.processors; ram = l.ram; tasks = l.tasks; semaphores = l.semaphores; flags = l.flags; queues = l.queues ∙ append_assoc s.config.queues (queue_said x ∷ []) (queues_of ss); spin_locks = l.spin_locks; handlers = l.handlers }, nested))
 goes_back line whole s next (SpinLock x) ss is may e =
     let add : SpinLockConfig → State = λ made. record s { config = record s.config { spin_locks = s.config.spin_locks ++ made ∷ [] } } in
     let p = one_ok (spin_lock_of line s.config.spin_locks x) add next e in
     let ok = spin_lock_ok line s.config.spin_locks x p.0 p.1 in
     subst (GoesBack whole s (SpinLock x) ss) (ap add (sym ok.2) ∙ p.2)
-    (λ l nested. (record { processors = l.processors; ram = l.ram; tasks = l.tasks; semaphores = l.semaphores; flags = l.flags; queues = l.queues; spin_locks = l.spin_locks ∙ append_assoc s.config.spin_locks (spin_lock_said x ∷ []) (spin_locks_of ss); handlers = l.handlers }, (ok.3, nested)))
+    (λ l nested. (record { standard = l.standard; processors = l.processors; ram = l.ram; tasks = l.tasks; semaphores = l.semaphores; flags = l.flags; queues = l.queues; spin_locks = l.spin_locks ∙ append_assoc s.config.spin_locks (spin_lock_said x ∷ []) (spin_locks_of ss); handlers = l.handlers }, (ok.3, nested)))
 goes_back line whole s next (Handler x) ss is may e =
     let add : HandlerConfig → State = λ made. record s { config = record s.config { handlers = s.config.handlers ++ made ∷ [] } } in
     let p = one_ok (handler_of line s.config.handlers (processor_of s.class) x) add next e in
     let ok = handler_ok line s.config.handlers s.config.processors (processor_of s.class) x p.0 is.class p.1 in
     subst (GoesBack whole s (Handler x) ss) (ap add (sym ok.2) ∙ p.2)
-    (λ l nested. (record { processors = l.processors; ram = l.ram; tasks = l.tasks; semaphores = l.semaphores; flags = l.flags; queues = l.queues; spin_locks = l.spin_locks; handlers = l.handlers ∙ append_assoc s.config.handlers (handler_said (processor_of s.class) x ∷ []) (handlers_of s.class ss) }, (ok.3, nested)))
+    (λ l nested. (record { standard = l.standard; processors = l.processors; ram = l.ram; tasks = l.tasks; semaphores = l.semaphores; flags = l.flags; queues = l.queues; spin_locks = l.spin_locks; handlers = l.handlers ∙ append_assoc s.config.handlers (handler_said (processor_of s.class) x ∷ []) (handlers_of s.class ss) }, (ok.3, nested)))
 
 -- ---- the statements up to the end
 
@@ -160,7 +160,7 @@ nothing_told whole s are ends e =
     (record {
       statements = [];
       spelled = no_tokens s.1 are parts.1;
-      leads = record { processors = refl; ram = refl; tasks = sym (append-nil s.0.config.tasks); semaphores = sym (append-nil s.0.config.semaphores); flags = sym (append-nil s.0.config.flags); queues = sym (append-nil s.0.config.queues); spin_locks = sym (append-nil s.0.config.spin_locks); handlers = sym (append-nil s.0.config.handlers) };
+      leads = record { standard = refl; processors = refl; ram = refl; tasks = sym (append-nil s.0.config.tasks); semaphores = sym (append-nil s.0.config.semaphores); flags = sym (append-nil s.0.config.flags); queues = sym (append-nil s.0.config.queues); spin_locks = sym (append-nil s.0.config.spin_locks); handlers = sym (append-nil s.0.config.handlers) };
       nested = unnested s.0.class parts.0;
     })
   where
@@ -206,51 +206,91 @@ told_back (suc n) whole s is are e =
 -- ---- the first statement
 
 -- BOARD at the front, and what it says
-record IsBegun (t : Text) (s : State × Text) : Type 0 where
+record IsBegun (standard : Bool) (t : Text) (s : State × Text) : Type 0 where
   processors : ℕ
   ram : ℕ
   front : Front (form (Board processors ram)) t s.1
-  state : s.0 ≡ record { config = started processors ram; class = None }
+  state : s.0 ≡ record { config = started standard processors ram; class = None }
 
-board_token : (w : Token) → is_board w ≡ true → w ≡ Run (codes "BOARD")
-board_token (Run run) h = ap (λ (x : List ℕ). Run x) ((bytes_eq-Decides run (codes "BOARD")).0 h)
-board_token (Mark b) h = absurd (cc)
-board_token Unclosed h = absurd (cc)
-board_token End h = absurd (cc)
+word_token : (word : List ℕ) (w : Token) → is_word word w ≡ true → w ≡ Run word
+word_token word (Run run) h = ap (λ (x : List ℕ). Run x) ((bytes_eq-Decides run word).0 h)
+word_token word (Mark b) h = absurd (cc)
+word_token word Unclosed h = absurd (cc)
+word_token word End h = absurd (cc)
 
-board_said : (line processors ram : ℕ) (c : Configuration) → board_of line processors ram ≡ Ok c → c ≡ started processors ram
+mark_token : (mark : ℕ) (w : Token) → is_mark mark w ≡ true → w ≡ Mark mark
+mark_token mark (Run run) h = absurd (cc)
+mark_token mark (Mark b) h = ap (λ (x : ℕ). Mark x) (eqb-true b mark h)
+mark_token mark Unclosed h = absurd (cc)
+mark_token mark End h = absurd (cc)
+
+board_said : (standard : Bool) (line processors ram : ℕ) (c : Configuration) → board_of standard line processors ram ≡ Ok c → c ≡ started standard processors ram
 unfolding board_of
-board_said line processors ram c e =
+board_said standard line processors ram c e =
     let p = two_ok (within 1 8 (BadProcessor line) processors) (refused (not (is_ram_size ram)) (BadCount line))
-    (λ count sized. record { processors = count; ram = ram; tasks = []; semaphores = []; flags = []; queues = []; spin_locks = []; handlers = [] }) c e in
-    sym p.4 ∙ ap (λ (count : ℕ). started count ram) (within_ok 1 8 (BadProcessor line) processors p.0 p.2).0
+    (λ count sized. record { standard = standard; processors = count; ram = ram; tasks = []; semaphores = []; flags = []; queues = []; spin_locks = []; handlers = [] }) c e in
+    sym p.4 ∙ ap (λ (count : ℕ). started standard count ram) (within_ok 1 8 (BadProcessor line) processors p.0 p.2).0
 
-begun_back : (line : ℕ) (t : Text) (s : State × Text) → (first t).token ≡ Run (codes "BOARD") → first_board line (others t) ≡ Ok s → IsBegun t s
+begun_back : (standard : Bool) (line : ℕ) (t : Text) (s : State × Text) → (first t).token ≡ Run (codes "BOARD") → first_board standard line (others t) ≡ Ok s → IsBegun standard t s
 unfolding first_board
-begun_back line t s is e =
-    let a = bind_ok (board_at (others t)) (λ board. board_of line board.0 board.1 >>= λ config. Ok (record { config = config; class = None }, board.2)) s e in
-    let b = bind_ok (board_of line a.0.0 a.0.1) (λ config. Ok (record { config = config; class = None }, a.0.2)) s a.2 in
+begun_back standard line t s is e =
+    let a = bind_ok (board_at (others t)) (λ board. board_of standard line board.0 board.1 >>= λ config. Ok (record { config = config; class = None }, board.2)) s e in
+    let b = bind_ok (board_of standard line a.0.0 a.0.1) (λ config. Ok (record { config = config; class = None }, a.0.2)) s a.2 in
     let made : State × Text = (record { config = b.0; class = None }, a.0.2) in
-    subst (IsBegun t) (ok_is made s b.2) (record {
+    subst (IsBegun standard t) (ok_is made s b.2) (record {
       processors = a.0.0;
       ram = a.0.1;
       front = exactly (codes "BOARD") t is then board_back (others t) a.0 a.1;
-      state = ap (λ (c : Configuration). record { config = c; class = None }) (board_said line a.0.0 a.0.1 b.0 b.1);
+      state = ap (λ (c : Configuration). record { config = c; class = None }) (board_said standard line a.0.0 a.0.1 b.0 b.1);
     })
 
-first_back : (t : Text) (s : State × Text) → first_statement t ≡ Ok s → IsBegun t s
+first_back : (standard : Bool) (t : Text) (s : State × Text) → first_statement standard t ≡ Ok s → IsBegun standard t s
 unfolding first_statement
-first_back t s e = by_token (is_board (first t).token) refl e
+first_back standard t s e = by_token (is_board (first t).token) refl e
   where
-    by_token : (b : Bool) → is_board (first t).token ≡ b → cond b (first_board (first t).line (others t)) (Err (Syntax (first t).line)) ≡ Ok s → IsBegun t s
-    by_token true is e = begun_back (first t).line t s (board_token (first t).token is) e
+    by_token : (b : Bool) → is_board (first t).token ≡ b → cond b (first_board standard (first t).line (others t)) (Err (Syntax (first t).line)) ≡ Ok s → IsBegun standard t s
+    by_token true is e = begun_back standard (first t).line t s (word_token (codes "BOARD") (first t).token is) e
     by_token false is e = absurd (cc)
+
+-- ---- the profile
+
+five : (a b c d e : Bool) → (a && b && c && d && e) ≡ true → (a ≡ true) × (b ≡ true) × (c ≡ true) × (d ≡ true) × (e ≡ true)
+five a b c d e is = (grind (arith, is), grind (arith, is), grind (arith, is), grind (arith, is), grind (arith, is))
+
+sign : (b : ℕ) (t : Text) → is_mark b (first t).token ≡ true → Front (Sign b ∷ []) t (others t)
+sign b t is = one_front (Sign b) (Mark b) t (others t) (λ e. cc) refl (mark_token b (first t).token is) refl
+
+word : (run : List ℕ) (t : Text) → is_word run (first t).token ≡ true → Front (Exactly run ∷ []) t (others t)
+word run t is = exactly run t (word_token run (first t).token is)
+
+profile_front : (t : Text) → has_profile t ≡ true → Front (profile_form true) t (behind_profile t)
+unfolding has_profile
+profile_front t is =
+    let t1 = others t in
+    let t2 = others t1 in
+    let t3 = others t2 in
+    let t4 = others t3 in
+    let all = five (is_word (codes "PROFILE") (first t).token) (is_mark 40 (first t1).token) (is_word (codes "STANDARD") (first t2).token) (is_mark 41 (first t3).token) (is_mark 59 (first t4).token) is in
+    word (codes "PROFILE") t all.0 then sign 40 t1 all.1 then word (codes "STANDARD") t2 all.2 then sign 41 t3 all.3 then sign 59 t4 all.4
+
+abbrev opened_by : Bool → Text → Bool × Text
+opened_by one t = cond one (true, behind_profile t) (false, t)
+
+-- what stands before the text from BOARD on
+opened_back : (t : Text) → Front (profile_form (opened t).0) t (opened t).1
+unfolding opened
+opened_back t = by_test (has_profile t) refl
+  where
+    by_test : (b : Bool) → has_profile t ≡ b → Front (profile_form (opened_by b t).0) t (opened_by b t).1
+    by_test true is = profile_front t is
+    by_test false is = record { front = []; spelled = refl; tokens = refl }
 
 -- ---- the text
 
 -- all that there is, where nothing was said before
-whole_said : (whole : Configuration) (processors ram : ℕ) (ss : List Statement) → Leads whole (started processors ram) None ss → whole ≡ said processors ram ss
-whole_said whole processors ram ss l = sym (all_said whole (said processors ram ss) None (record {
+whole_said : (whole : Configuration) (standard : Bool) (processors ram : ℕ) (ss : List Statement) → Leads whole (started standard processors ram) None ss → whole ≡ said standard processors ram ss
+whole_said whole standard processors ram ss l = sym (all_said whole (said standard processors ram ss) None (record {
+  standard = l.standard;
   processors = l.processors;
   ram = l.ram;
   tasks = l.tasks ∙ sym (append-nil (tasks_of None ss));
@@ -261,22 +301,62 @@ whole_said whole processors ram ss l = sym (all_said whole (said processors ram 
   handlers = l.handlers ∙ sym (append-nil (handlers_of None ss));
 }))
 
-says : (bytes : List ℕ) (c : Configuration) (s : State × Text) → IsConfiguration c → IsBegun (tokens_of bytes) s → Told c s.0 s.1 → Says bytes c
-says bytes c s valid begun told =
+says : (bytes : List ℕ) (c : Configuration) (x : Bool × Text) (s : State × Text) → IsConfiguration c → Front (profile_form x.0) (tokens_of bytes) x.1 → IsBegun x.0 x.1 s → Told c s.0 s.1 → Says bytes c
+says bytes c x s valid opening begun told =
     let ss = told.statements in
+    let all = Board begun.processors begun.ram ∷ ss in
     let front = begun.front in
-    let leads : Leads c (started begun.processors begun.ram) None ss = subst (λ (q : State). Leads c q.config q.class ss) begun.state told.leads in
+    let leads : Leads c (started x.0 begun.processors begun.ram) None ss = subst (λ (q : State). Leads c q.config q.class ss) begun.state told.leads in
     let nested : AreNested begun.processors None ss = subst (λ (q : State). AreNested q.config.processors q.class ss) begun.state told.nested in
-    let same : c ≡ said begun.processors begun.ram ss = whole_said c begun.processors begun.ram ss leads in
-    let spelled : AreSpelled (flat_map form (Board begun.processors begun.ram ∷ ss)) (bare_tokens (tokens_of bytes)) =
+    let same : c ≡ said x.0 begun.processors begun.ram ss = whole_said c x.0 begun.processors begun.ram ss leads in
+    let from_board : AreSpelled (flat_map form all) (bare_tokens x.1) =
     subst (AreSpelled (form (Board begun.processors begun.ram) ++ flat_map form ss)) (sym front.tokens) (both_spelled (form (Board begun.processors begun.ram)) (flat_map form ss) front.front (bare_tokens s.1) front.spelled told.spelled) in
-    let bytes_spell = spelled_back 1 bytes (closed (flat_map form (Board begun.processors begun.ram ∷ ss)) (bare_tokens (tokens_of bytes)) spelled) in
-    (begun.processors, begun.ram, ss, (bare_tokens (tokens_of bytes), bytes_spell, spelled), record { nested = nested; values = subst IsConfiguration same valid }, same)
+    let spelled : AreSpelled (profile_form x.0 ++ flat_map form all) (bare_tokens (tokens_of bytes)) =
+    subst (AreSpelled (profile_form x.0 ++ flat_map form all)) (sym opening.tokens) (both_spelled (profile_form x.0) (flat_map form all) opening.front (bare_tokens x.1) opening.spelled from_board) in
+    let bytes_spell = spelled_back 1 bytes (closed (profile_form x.0 ++ flat_map form all) (bare_tokens (tokens_of bytes)) spelled) in
+    (x.0, begun.processors, begun.ram, ss, (bare_tokens (tokens_of bytes), bytes_spell, spelled), record { nested = nested; values = subst IsConfiguration same valid }, same)
+
+-- what the statements from BOARD on come to
+record IsRead (c : Configuration) (x : Bool × Text) : Type 0 where
+  state : State × Text
+  begun : IsBegun x.0 x.1 state
+  told : Told c state.0 state.1
+
+from_back : (x : Bool × Text) (c : Configuration) → AreTokens (bare_tokens x.1) → config_from x ≡ Ok c → IsRead c x
+unfolding config_from statements_from
+from_back x c are e =
+    let a = bind_ok (first_statement x.0 x.1) statements_from c e in
+    let begun = first_back x.0 x.1 a.0 a.1 in
+    let rest = behind_front begun.front.front (bare_tokens a.0.1) (subst AreTokens begun.front.tokens are) in
+    record { state = a.0; begun = begun; told = told_back (suc (length a.0.1.tokens)) c a.0 (first_ok x.0 x.1 a.0 a.1) rest a.2 }
+
+text_back : (bytes : List ℕ) (c : Configuration) → config_of bytes ≡ Ok c → IsRead c (opened (tokens_of bytes))
+unfolding config_of
+text_back bytes c e =
+    let t = tokens_of bytes in
+    let opening = opened_back t in
+    from_back (opened t) c (behind_front opening.front (bare_tokens (opened t).1) (subst AreTokens opening.tokens (are_tokens Between 1 bytes))) e
 
 pub says_back : (bytes : List ℕ) (c : Configuration) → config_of bytes ≡ Ok c → Says bytes c
-unfolding config_of statements_from
 says_back bytes c e =
-    let a = bind_ok (first_statement (tokens_of bytes)) statements_from c e in
-    let begun = first_back (tokens_of bytes) a.0 a.1 in
-    let rest = behind_front begun.front.front (bare_tokens a.0.1) (subst AreTokens begun.front.tokens (are_tokens Between 1 bytes)) in
-    says bytes c a.0 (config_is_valid bytes c e) begun (told_back (suc (length a.0.1.tokens)) c a.0 (first_ok (tokens_of bytes) a.0 a.1) rest a.2)
+    let read = text_back bytes c e in
+    says bytes c (opened (tokens_of bytes)) read.state (config_is_valid bytes c e) (opened_back (tokens_of bytes)) read.begun read.told
+
+-- ---- what the profile is new for
+
+opened_mark : (t : Text) → (opened t).0 ≡ has_profile t
+unfolding opened
+opened_mark t = by_test (has_profile t)
+  where
+    by_test : (b : Bool) → (opened_by b t).0 ≡ b
+    by_test true = refl
+    by_test false = refl
+
+pub marked_back : (bytes : List ℕ) (c : Configuration) → config_of bytes ≡ Ok c → c.standard ≡ has_profile (tokens_of bytes)
+marked_back bytes c e =
+    let read = text_back bytes c e in
+    read.told.leads.standard ∙ ap (λ (s : State). s.config.standard) read.begun.state ∙ opened_mark (tokens_of bytes)
+
+pub plain_text : (bytes : List ℕ) → has_profile (tokens_of bytes) ≡ false → config_of bytes ≡ plain_config_of bytes
+unfolding config_of opened
+plain_text bytes none = rw none refl

@@ -35,7 +35,7 @@ use Rattle.brd_config.specs.declared.statement.Statement.{Statement}
 use Rattle.brd_config.specs.declared.statement.Statement.TheVariants.{Board, Class, ClassEnd, Task, Semaphore, Flag, Queue, SpinLock, Handler}
 use Rattle.brd_config.specs.Statements.{statement_at, board_at}
 use Rattle.brd_config.specs.Configuration.{Configuration, IsWithin, IsTask, IsSemaphore, IsFlag, IsQueue, IsSpinLock, IsHandler, IsConfiguration}
-use Rattle.brd_config.specs.Meaning.{State, within, only_bits, refused, is_ram_size, task_numbers, task_of, semaphore_of, flag_of, queue_of, spin_lock_of, handler_of, added, processor_of, is_end, is_board, one_more, statement_step, statements_from, board_of, first_board, first_statement, config_of}
+use Rattle.brd_config.specs.Meaning.{State, within, only_bits, refused, is_ram_size, task_numbers, task_of, semaphore_of, flag_of, queue_of, spin_lock_of, handler_of, added, processor_of, is_end, is_board, one_more, statement_step, statements_from, board_of, first_board, first_statement, opened, config_from, config_of}
 use Rattle.brd_config.specs.Grammar.{task_said, semaphore_said, flag_said, queue_said, spin_lock_said, handler_said}
 use Rattle.brd_config.proofs.RamSize.{has_ram_size}
 
@@ -296,11 +296,11 @@ unfolding statement_step
 step_done s c e h = done_by (is_none s.0.class && is_end (first s.1).token) s c e h
 
 -- nothing but a board
-board_ok : (line processors ram : ℕ) (c : Configuration) → board_of line processors ram ≡ Ok c → IsConfiguration c
+board_ok : (standard : Bool) (line processors ram : ℕ) (c : Configuration) → board_of standard line processors ram ≡ Ok c → IsConfiguration c
 unfolding board_of
-board_ok line processors ram c e =
+board_ok standard line processors ram c e =
     let p = two_ok (within 1 8 (BadProcessor line) processors) (refused (not (is_ram_size ram)) (BadCount line))
-    (λ count sized. record { processors = count; ram = ram; tasks = []; semaphores = []; flags = []; queues = []; spin_locks = []; handlers = [] }) c e in
+    (λ count sized. record { standard = standard; processors = count; ram = ram; tasks = []; semaphores = []; flags = []; queues = []; spin_locks = []; handlers = [] }) c e in
     let sized = not-false (is_ram_size ram) (refused_ok (not (is_ram_size ram)) (BadCount line) p.1 p.3) in
     rw (← p.4) (record {
       processors = (within_ok 1 8 (BadProcessor line) processors p.0 p.2).1;
@@ -319,26 +319,30 @@ board_ok line processors ram c e =
       handler_lines = λ i j d lt below. absurd (omega arith);
     })
 
-first_board_ok : (line : ℕ) (t : Text) (s : State × Text) → first_board line t ≡ Ok s → IsState s.0
+first_board_ok : (standard : Bool) (line : ℕ) (t : Text) (s : State × Text) → first_board standard line t ≡ Ok s → IsState s.0
 unfolding first_board
-first_board_ok line t s e =
-    let a = bind_ok (board_at t) (λ board. board_of line board.0 board.1 >>= λ config. Ok (record { config = config; class = None }, board.2)) s e in
-    let b = bind_ok (board_of line a.0.0 a.0.1) (λ config. Ok (record { config = config; class = None }, a.0.2)) s a.2 in
+first_board_ok standard line t s e =
+    let a = bind_ok (board_at t) (λ board. board_of standard line board.0 board.1 >>= λ config. Ok (record { config = config; class = None }, board.2)) s e in
+    let b = bind_ok (board_of standard line a.0.0 a.0.1) (λ config. Ok (record { config = config; class = None }, a.0.2)) s a.2 in
     let made : State × Text = (record { config = b.0; class = None }, a.0.2) in
-    let valid = board_ok line a.0.0 a.0.1 b.0 b.1 in
+    let valid = board_ok standard line a.0.0 a.0.1 b.0 b.1 in
     let same : made ≡ s = ok_is made s b.2 in
     subst (λ (x : State × Text). IsState x.0) same (record { config = valid; class = record { least = omega arith; most = valid.processors.least } })
 
-pub first_ok : (t : Text) (s : State × Text) → first_statement t ≡ Ok s → IsState s.0
+pub first_ok : (standard : Bool) (t : Text) (s : State × Text) → first_statement standard t ≡ Ok s → IsState s.0
 unfolding first_statement
-first_ok t s e = first_board_ok (first t).line (others t) s (passed_by (is_board (first t).token) e)
+first_ok standard t s e = first_board_ok standard (first t).line (others t) s (passed_by (is_board (first t).token) e)
   where
-    passed_by : (b : Bool) → cond b (first_board (first t).line (others t)) (Err (Syntax (first t).line)) ≡ Ok s → first_board (first t).line (others t) ≡ Ok s
+    passed_by : (b : Bool) → cond b (first_board standard (first t).line (others t)) (Err (Syntax (first t).line)) ≡ Ok s → first_board standard (first t).line (others t) ≡ Ok s
     passed_by true e = e
     passed_by false e = absurd (cc)
 
+from_is_valid : (x : Bool × Text) (c : Configuration) → config_from x ≡ Ok c → IsConfiguration c
+unfolding config_from statements_from
+from_is_valid x c e =
+    let a = bind_ok (first_statement x.0 x.1) statements_from c e in
+    keeps NoMemory statement_step (λ s. IsState s.0) IsConfiguration step_more step_done (suc (length a.0.1.tokens)) a.0 c (first_ok x.0 x.1 a.0 a.1) a.2
+
 pub config_is_valid : (bytes : List ℕ) (c : Configuration) → config_of bytes ≡ Ok c → IsConfiguration c
-unfolding config_of statements_from
-config_is_valid bytes c e =
-    let a = bind_ok (first_statement (tokens_of bytes)) statements_from c e in
-    keeps NoMemory statement_step (λ s. IsState s.0) IsConfiguration step_more step_done (suc (length a.0.1.tokens)) a.0 c (first_ok (tokens_of bytes) a.0 a.1) a.2
+unfolding config_of
+config_is_valid bytes c e = from_is_valid (opened (tokens_of bytes)) c e

@@ -1,5 +1,5 @@
 -- A configuration, and what is one: the limits of each value, and IDs that are distinct.
-use Rattle.std.specs.Prelude.{◌≢◌, ℕ, ◌≤◌, List, All, AllPairs}
+use Rattle.std.specs.Prelude.{◌≢◌, ℕ, ◌≤◌, Bool, List, All, AllPairs}
 use Rattle.brd_base.specs.Space.{IsRamSize}
 use Rattle.brd_config.specs.declared.objects.TaskConfig.{TaskConfig}
 use Rattle.brd_config.specs.declared.objects.SemaphoreConfig.{SemaphoreConfig}
@@ -8,8 +8,9 @@ use Rattle.brd_config.specs.declared.objects.QueueConfig.{QueueConfig}
 use Rattle.brd_config.specs.declared.objects.SpinLockConfig.{SpinLockConfig}
 use Rattle.brd_config.specs.declared.objects.HandlerConfig.{HandlerConfig}
 
--- the objects of each kind in the order of their statements
+-- whether the kernel has the profile PROFILE(STANDARD), and the objects of each kind in the order of their statements
 pub record Configuration : Type 0 where
+  pub standard : Bool
   pub processors : ℕ
   pub ram : ℕ
   pub tasks : List TaskConfig

@@ -1,6 +1,6 @@
 -- The language as a grammar, apart from how it is read: the form of each statement, which tokens spell a form, and what
 -- configuration a list of statements says.
-use Rattle.std.specs.Prelude.{◌≡◌, ℕ, ◌≤◌, true, List, [], ◌∷◌, ◌++◌, Option, Some, None, codes}
+use Rattle.std.specs.Prelude.{◌≡◌, ℕ, ◌≤◌, Bool, true, false, List, [], ◌∷◌, ◌++◌, Option, Some, None, codes}
 use Rattle.std.specs.List.{flat_map}
 use Rattle.std.specs.Int.RustNames.{bit_or}
 use Rattle.brd_text.specs.Tokens.{Token}
@@ -93,9 +93,17 @@ form (SpinLock s) =
     ∷ Sign 41 ∷ Sign 59 ∷ []
 form (Handler h) = object (codes "DEF_INH") h.line h.attributes (Value h.address ∷ [])
 
--- The bytes spell the statements, in their forms.
-abbrev pub IsText : List ℕ → List Statement → Type 0
-IsText bytes statements = (tokens : List Token) × Spells bytes tokens × AreSpelled (flat_map form statements) tokens
+-- what stands before all statements where the profile is asked for
+abbrev pub profile_form : Bool → List Piece
+profile_form true =
+    Exactly (codes "PROFILE") ∷ Sign 40 ∷ Exactly (codes "STANDARD") ∷ Sign 41 ∷ Sign 59 ∷ []
+profile_form false = []
+
+-- The bytes spell the profile, if it is asked for, and the statements, in their forms.
+abbrev pub IsText : List ℕ → Bool → List Statement → Type 0
+IsText bytes standard statements =
+    (tokens : List Token) × Spells bytes tokens
+    × AreSpelled (profile_form standard ++ flat_map form statements) tokens
 
 -- ---- what statements say
 
@@ -203,9 +211,10 @@ handlers_of class (SpinLock s ∷ ss) = handlers_of class ss
 handlers_of class (Handler h ∷ ss) = handler_said (processor_of class) h ∷ handlers_of class ss
 
 -- the configuration of a board and the statements after it, whatever their values
-abbrev pub said : ℕ → ℕ → List Statement → Configuration
-said processors ram ss =
+abbrev pub said : Bool → ℕ → ℕ → List Statement → Configuration
+said standard processors ram ss =
     record {
+      standard = standard;
       processors = processors;
       ram = ram;
       tasks = tasks_of None ss;
@@ -241,12 +250,13 @@ AreNested processors class (SpinLock s ∷ ss) = (s.attributes ≡ 0) × AreNest
 AreNested processors class (Handler h ∷ ss) = (h.attributes ≤ 1) × AreNested processors class ss
 
 -- Statements that are valid: well nested, and what they say is a configuration.
-pub record AreValid (processors ram : ℕ) (ss : List Statement) : Type 0 where
+pub record AreValid (standard : Bool) (processors ram : ℕ) (ss : List Statement) : Type 0 where
   pub nested : AreNested processors None ss
-  pub values : IsConfiguration (said processors ram ss)
+  pub values : IsConfiguration (said standard processors ram ss)
 
--- The text is that of valid statements, BOARD first, and this is what they say.
+-- The text is that of valid statements, BOARD first but for the profile, and this is what they say.
 abbrev pub Says : List ℕ → Configuration → Type 0
 Says bytes c =
-    (processors : ℕ) × (ram : ℕ) × (ss : List Statement) × IsText bytes (Board processors ram ∷ ss)
-    × AreValid processors ram ss × (c ≡ said processors ram ss)
+    (standard : Bool) × (processors : ℕ) × (ram : ℕ) × (ss : List Statement)
+    × IsText bytes standard (Board processors ram ∷ ss) × AreValid standard processors ram ss
+    × (c ≡ said standard processors ram ss)

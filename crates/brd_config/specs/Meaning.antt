@@ -126,12 +126,13 @@ handler_of line handlers processor h = do
   attributes ← only_bits 1 (BadAttribute line) h.attributes
   Ok (record { line = number; processor = processor; address = h.address })
 
--- What the first statement says.
-unfoldable pub board_of : ℕ → ℕ → ℕ → Result Configuration ConfigFault
-board_of line processors ram = do
+-- What BOARD says, with the profile or without.
+unfoldable pub board_of : Bool → ℕ → ℕ → ℕ → Result Configuration ConfigFault
+board_of standard line processors ram = do
   count ← within 1 8 (BadProcessor line) processors
   sized ← refused (not (is_ram_size ram)) (BadCount line)
   Ok (record {
+    standard = standard;
     processors = count;
     ram = ram;
     tasks = [];
@@ -193,24 +194,59 @@ statement_step x = if is_none x.0.class && is_end (first x.1).token then Ok (Don
 unfoldable pub statements_from : State × Text → Result Configuration ConfigFault
 statements_from x = repeated NoMemory statement_step (suc (length x.1.tokens)) x
 
+-- a token is this word, or this mark
+
+abbrev pub is_word : List ℕ → Token → Bool
+is_word word (Run run) = bytes_eq run word
+is_word word (Mark b) = false
+is_word word Unclosed = false
+is_word word End = false
+
+abbrev pub is_mark : ℕ → Token → Bool
+is_mark mark (Run run) = false
+is_mark mark (Mark b) = b == mark
+is_mark mark Unclosed = false
+is_mark mark End = false
+
 abbrev pub is_board : Token → Bool
-is_board (Run run) = bytes_eq run (codes "BOARD")
-is_board (Mark b) = false
-is_board Unclosed = false
-is_board End = false
+is_board token = is_word (codes "BOARD") token
 
 -- BOARD(processors, ram); after its first token, which stands on this line
-unfoldable pub first_board : ℕ → Text → Result (State × Text) ConfigFault
-first_board line t = do
+unfoldable pub first_board : Bool → ℕ → Text → Result (State × Text) ConfigFault
+first_board standard line t = do
   board ← board_at t
-  config ← board_of line board.0 board.1
+  config ← board_of standard line board.0 board.1
   Ok (record { config = config; class = None }, board.2)
 
--- The first statement is BOARD.
-unfoldable pub first_statement : Text → Result (State × Text) ConfigFault
-first_statement t =
-    if is_board (first t).token then first_board (first t).line (others t) else Err (Syntax (first t).line)
+-- The first statement is BOARD, but for the profile.
+unfoldable pub first_statement : Bool → Text → Result (State × Text) ConfigFault
+first_statement standard t =
+    if is_board (first t).token then first_board standard (first t).line (others t) else Err (Syntax (first t).line)
+
+-- a text from BOARD on, with the profile or without
+unfoldable pub config_from : Bool × Text → Result Configuration ConfigFault
+config_from x = first_statement x.0 x.1 >>= statements_from
+
+-- what a text says, or its first fault, where no text asks for the profile
+abbrev pub plain_config_of : List ℕ → Result Configuration ConfigFault
+plain_config_of bytes = config_from (false, tokens_of bytes)
+
+-- the text after its first five tokens
+abbrev pub behind_profile : Text → Text
+behind_profile t = others (others (others (others (others t))))
+
+-- PROFILE(STANDARD); stands at the front.
+unfoldable pub has_profile : Text → Bool
+has_profile t =
+    is_word (codes "PROFILE") (first t).token && is_mark 40 (first (others t)).token
+    && is_word (codes "STANDARD") (first (others (others t))).token
+    && is_mark 41 (first (others (others (others t)))).token
+    && is_mark 59 (first (others (others (others (others t))))).token
+
+-- Whether a text asks for the profile, and the text from BOARD on. Where PROFILE has any other form, it is no statement.
+unfoldable pub opened : Text → Bool × Text
+opened t = if has_profile t then (true, behind_profile t) else (false, t)
 
 -- what a text says, or its first fault
 unfoldable pub config_of : List ℕ → Result Configuration ConfigFault
-config_of bytes = first_statement (tokens_of bytes) >>= statements_from
+config_of bytes = config_from (opened (tokens_of bytes))

@@ -7,6 +7,7 @@ use Rattle.brd_config.specs.Meaning.{State}
 abbrev pub view : Config → Configuration
 view c =
     record {
+      standard = c.standard;
       processors = c.processors;
       ram = c.ram;
       tasks = c.tasks;
@@ -20,6 +21,7 @@ view c =
 abbrev pub drafted : Draft → Configuration
 drafted d =
     record {
+      standard = d.standard;
       processors = d.processors;
       ram = d.ram;
       tasks = d.tasks;

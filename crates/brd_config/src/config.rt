@@ -9,6 +9,8 @@ use brd_base::List;
 
 /// What a configuration text says. Each value is within its limits, and IDs of one kind are distinct, as `valid` says.
 pub struct Config {
+    /// Whether the kernel has the profile, which `PROFILE(STANDARD);` asks for.
+    pub standard: bool,
     /// How many processors the board has: 1 to 8.
     pub processors: u8,
     /// The size of RAM in bytes.
@@ -22,6 +24,7 @@ pub struct Config {
     pub handlers: List<HandlerConfig>,
     ghost valid: { IsConfiguration
         (record {
+          standard = standard;
           processors = processors;
           ram = ram;
           tasks = tasks;
@@ -37,6 +40,7 @@ pub struct Config {
 impl Drop for Config {
     fn drop(self) {
         let Config {
+            standard: _,
             processors: _,
             ram: _,
             tasks: _,

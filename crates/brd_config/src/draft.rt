@@ -8,6 +8,7 @@ use brd_base::List;
 /// A configuration that is not finished yet.
 #[derive(Drop)]
 pub struct Draft {
+    pub standard: bool,
     pub processors: u8,
     pub ram: u32,
     pub tasks: List<TaskConfig>,

@@ -22,7 +22,7 @@ pub use objects::{
     FlagConfig, HandlerConfig, Operand, QueueConfig, SemaphoreConfig, SpinLockConfig, Stack,
     TaskConfig,
 };
-pub use parser::{parse, read_board, read_statement};
+pub use parser::{open, parse, read_board, read_statement};
 pub use reading::{attribute_named, class_of};
 pub use statement::Keyword;
 pub use statements::{KEYWORDS, keyword_of};

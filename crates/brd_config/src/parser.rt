@@ -1,7 +1,8 @@
 //! A text to a configuration, statement by statement.
 
-ghost use Rattle.std.specs.Prelude.{◌≡◌, ◌≤◌, ◌<◌, IsTrue, IfOk, length, None, Ok};
+ghost use Rattle.std.specs.Prelude.{◌≡◌, ◌≤◌, ◌<◌, false, IsTrue, IfOk, length, None, Ok};
 ghost use Rattle.brd_text.specs.Turns.{flow_of};
+ghost use Rattle.brd_text.specs.Tokens.{seen, tokens_of};
 ghost use Rattle.brd_config.specs.Faults.{Gives};
 ghost use Rattle.brd_config.specs.Meaning as meaning;
 ghost use Rattle.brd_config.specs.Configuration.{Configuration, IsConfiguration};
@@ -18,10 +19,16 @@ use brd_base::{List, is_ram_size};
 use brd_text::{Scanner, Token};
 use std::alloc::Global;
 
-/// What the first statement, which begins on this line, says.
+/// What `BOARD`, which begins on this line, says, with the profile or without.
 #[tactic(auto, unfolding(crate::specs::Meaning::board_of))]
-fn begun(alloc: Global, line: usize, processors: u32, ram: u32) -> Result<Draft, ConfigFault>
-    ensures read { Gives drafted result (meaning.board_of line processors ram) }
+fn begun(
+    alloc: Global,
+    standard: bool,
+    line: usize,
+    processors: u32,
+    ram: u32,
+) -> Result<Draft, ConfigFault>
+    ensures read { Gives drafted result (meaning.board_of standard line processors ram) }
     ensures class { IfOk result (λ d. d.class ≡ None) }
 {
     let processors = checks::within(processors, 1, 8, ConfigFault::BadProcessor { line })?;
@@ -29,6 +36,7 @@ fn begun(alloc: Global, line: usize, processors: u32, ram: u32) -> Result<Draft,
         return Err(ConfigFault::BadCount { line });
     }
     Ok(Draft {
+        standard,
         processors: processors as u8,
         ram,
         tasks: List::new(alloc),
@@ -126,10 +134,10 @@ fn finished(alloc: Global, mut draft: Draft, tokens: &mut Scanner) -> Result<Dra
     }
 }
 
-/// Takes the first statement, which is `BOARD`.
+/// Takes the first statement, which is `BOARD`, with the profile or without.
 #[tactic(auto, unfolding(crate::specs::Meaning::first_statement, crate::specs::Meaning::first_board))]
-pub fn read_board(alloc: Global, tokens: &mut Scanner) -> Result<Draft, ConfigFault>
-    ensures { Gives (λ d. (state_of d, tokens.new)) result (meaning.first_statement tokens.old) }
+pub fn read_board(alloc: Global, standard: bool, tokens: &mut Scanner) -> Result<Draft, ConfigFault>
+    ensures { Gives (λ d. (state_of d, tokens.new)) result (meaning.first_statement standard tokens.old) }
 {
     let (token, line) = tokens.next();
     let Token::Run(run) = token else {
@@ -139,16 +147,66 @@ pub fn read_board(alloc: Global, tokens: &mut Scanner) -> Result<Draft, ConfigFa
         return Err(ConfigFault::Syntax { line });
     }
     let (processors, ram) = board(tokens)?;
-    begun(alloc, line, processors, ram)
+    begun(alloc, standard, line, processors, ram)
+}
+
+/// Whether a token is this word.
+fn is_word(token: Token, word: &[u8]) -> bool
+    ensures { result ≡ meaning.is_word word.now (seen token.entry) }
+{
+    match token {
+        Token::Run(run) => run == word,
+        _ => false,
+    }
+}
+
+/// Whether a token is this mark.
+fn is_mark(token: Token, mark: u8) -> bool
+    ensures { result ≡ meaning.is_mark mark (seen token.entry) }
+{
+    match token {
+        Token::Mark(found) => found == mark,
+        _ => false,
+    }
+}
+
+/// Takes five tokens, and says whether they are `PROFILE(STANDARD);`.
+#[tactic(auto, unfolding(crate::specs::Meaning::has_profile))]
+fn profile(tokens: &mut Scanner) -> bool
+    ensures is { result ≡ meaning.has_profile tokens.old }
+    ensures behind { tokens.new ≡ meaning.behind_profile tokens.old }
+{
+    let (keyword, _) = tokens.next();
+    let (opening, _) = tokens.next();
+    let (name, _) = tokens.next();
+    let (closing, _) = tokens.next();
+    let (end, _) = tokens.next();
+    is_word(keyword, b"PROFILE")
+        && is_mark(opening, b'(')
+        && is_word(name, b"STANDARD")
+        && is_mark(closing, b')')
+        && is_mark(end, b';')
+}
+
+/// Whether a text begins with `PROFILE(STANDARD);`, and its tokens from `BOARD` on.
+#[tactic(auto, unfolding(crate::specs::Meaning::opened))]
+pub fn open(text: &[u8]) -> (bool, Scanner<'_>)
+    ensures { result ≡ meaning.opened (tokens_of text.now) }
+{
+    let mut tokens = Scanner::new(text);
+    if profile(&mut tokens) {
+        return (true, tokens);
+    }
+    (false, Scanner::new(text))
 }
 
 /// What a text says.
-#[tactic(auto, unfolding(crate::specs::Meaning::config_of))]
+#[tactic(auto, unfolding(crate::specs::Meaning::config_of, crate::specs::Meaning::config_from))]
 fn read(alloc: Global, text: &[u8]) -> Result<Draft, ConfigFault>
     ensures { Gives drafted result (meaning.config_of text.now) }
 {
-    let mut tokens = Scanner::new(text);
-    let draft = read_board(alloc, &mut tokens)?;
+    let (standard, mut tokens) = open(text);
+    let draft = read_board(alloc, standard, &mut tokens)?;
     finished(alloc, draft, &mut tokens)
 }
 
@@ -158,6 +216,7 @@ fn whole(draft: Draft) -> Config
     ensures { view result ≡ drafted draft }
 {
     Config {
+        standard: draft.standard,
         processors: draft.processors,
         ram: draft.ram,
         tasks: draft.tasks,
@@ -188,6 +247,9 @@ fn parsed(alloc: Global, text: &[u8]) -> Result<Config, ConfigFault>
 pub fn parse(alloc: Global, text: &[u8]) -> Result<Config, ConfigFault>
     // What the text says, or its first fault.
     ensures meaning { Gives view result (meaning.config_of text.now) }
+    // A text that doesn't begin with PROFILE(STANDARD); says what it says without any profile, and has its fault.
+    ensures plain { meaning.has_profile (tokens_of text.now) ≡ false →
+        Gives view result (meaning.plain_config_of text.now) }
     // What spells valid statements, in their forms and with any blanks and comments, says what they say.
     ensures grammar { (c : Configuration) → Says text.now c → Gives view result (Ok c) }
     // Each value is within its limits, and IDs of one kind are distinct.
