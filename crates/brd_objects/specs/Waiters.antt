@@ -1,11 +1,17 @@
--- What tasks want that wait for an event flag, and which of them a bit pattern satisfies.
+-- Who waits first; what tasks want that wait for an event flag, and which of them a bit pattern satisfies.
 use Rattle.std.specs.Prelude.{◌≢◌, ℕ, ◌==◌, Bool, not, if◌then◌else◌, List, [], ◌∷◌, find, Option}
 use Rattle.std.specs.List.{AllByRecursion}
+use Rattle.std.specs.Option.{option_map}
 use Rattle.std.specs.Int.RustNames.{bit_and}
 use Rattle.brd_queue.specs.declared.entry.QueueEntry.{QueueEntry}
+use Rattle.brd_queue.specs.Queue.{first_of}
 use Rattle.brd_objects.specs.declared.want.Mode.{Mode}
 use Rattle.brd_objects.specs.declared.want.Mode.TheVariants as mode
 use Rattle.brd_objects.specs.declared.want.Want.{Want}
+
+-- the task that stands first in a list of those who wait
+abbrev pub first_in : {W : Type 0} → List (QueueEntry W) → Option ℕ
+first_in waiters = option_map (λ e. e.id) (first_of waiters)
 
 -- whether a pattern has bits: all of them (TWF_ANDW), or any of them (TWF_ORW)
 

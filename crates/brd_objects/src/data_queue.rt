@@ -2,6 +2,7 @@
 
 ghost use Rattle.std.specs.Prelude.{◌≡◌, ◌<◌, ◌≤◌, IfOk, IfSome, length, vec_capacity};
 ghost use Rattle.brd_objects.specs.QueueOrder.{order_of};
+ghost use Rattle.brd_objects.specs.Waiters.{first_in};
 ghost use Rattle.brd_objects.specs.DataQueues.{
   data_queue_of,
   has_room,
@@ -143,6 +144,33 @@ impl DataQueue {
         ensures { result ≡ self.now.capacity }
     {
         self.capacity
+    }
+
+    /// How many data are stored: no more than its capacity.
+    pub fn stored(&self) -> u16
+        ensures { result ≡ length self.now.stored }
+    {
+        self.stored.len().min(self.capacity as usize) as u16
+    }
+
+    /// The task that waits first to send.
+    pub fn first_sender(&self) -> Option<u16>
+        ensures { result ≡ first_in self.now.senders }
+    {
+        match self.senders.first() {
+            Some(first) => Some(first.id),
+            None => None,
+        }
+    }
+
+    /// The task that waits first to receive.
+    pub fn first_receiver(&self) -> Option<u16>
+        ensures { result ≡ first_in self.now.receivers }
+    {
+        match self.receivers.first() {
+            Some(first) => Some(first.id),
+            None => None,
+        }
     }
 
     /// A datum is sent: to the first receiver, which no longer waits, else it is stored, where there is room.

@@ -16,7 +16,7 @@ ghost use Rattle.brd_objects.specs.Flags.{
   with_next_released,
   next_released,
 };
-ghost use Rattle.brd_objects.specs.Waiters.{WantBits};
+ghost use Rattle.brd_objects.specs.Waiters.{first_in, WantBits};
 
 mod saved;
 
@@ -108,6 +108,13 @@ impl Flag {
         ensures { result ≡ self.now.pattern }
     {
         self.pattern
+    }
+
+    /// The task that waits first.
+    pub fn first(&self) -> Option<u16>
+        ensures { result ≡ first_in self.now.waiters }
+    {
+        self.waiters.first()
     }
 
     /// Whether somebody waits, and nobody else may (TA_WSGL).

@@ -92,6 +92,23 @@ impl Object for Semaphore {
 }
 
 impl Semaphore {
+    /// How many can be taken.
+    pub fn count(&self) -> u16
+        ensures { result ≡ self.now.count }
+    {
+        self.count
+    }
+
+    /// The task that waits first.
+    pub fn first(&self) -> Option<u16>
+        ensures { result ≡ first_waiter self.now }
+    {
+        match self.waiters.first() {
+            Some(first) => Some(first.id),
+            None => None,
+        }
+    }
+
     /// Whether one can be taken.
     pub fn has_one(&self) -> bool
         ensures { result ≡ has_one self.now }

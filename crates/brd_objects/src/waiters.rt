@@ -3,7 +3,7 @@
 ghost use Rattle.std.specs.Prelude.{◌≡◌, ◌≢◌, ◌<◌, [], length, remove, slice_get, Some, false, IfNone, IfOk, IfSome};
 ghost use Rattle.brd_queue.specs.declared.entry.QueueOrder.TheVariants.{Priority};
 ghost use Rattle.brd_queue.specs.Queue.{has, without, entered, placed, reordered, is_empty};
-ghost use Rattle.brd_objects.specs.Waiters.{first_satisfied, without_satisfied, WantBits};
+ghost use Rattle.brd_objects.specs.Waiters.{first_in, first_satisfied, without_satisfied, WantBits};
 
 mod saved;
 
@@ -77,6 +77,16 @@ impl Waiters {
         ensures { result ≡ is_empty self.now }
     {
         self.queue.is_empty()
+    }
+
+    /// The one who waits first.
+    pub fn first(&self) -> Option<u16>
+        ensures { result ≡ first_in self.now }
+    {
+        match self.queue.first() {
+            Some(first) => Some(first.id),
+            None => None,
+        }
     }
 
     /// That each waiter wants some bit, for the proofs of those that hold them.
