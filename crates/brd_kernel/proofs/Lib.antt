@@ -14,3 +14,4 @@ pub mod who_runs
 pub mod SameLemmas
 pub mod AgainLemmas
 pub mod SpinLemmas
+pub mod ProfileLemmas

@@ -356,7 +356,7 @@ stopped-wrote k cpu p there handling was =
 faulted-task-wrote : (k : KernelState) (cpu : ℕ) (p : Processor) (running : Option ℕ) → processor_at k cpu ≡ Some p →
     IsLocking k →
     Wrote k cpu (faulted_task k cpu p running)
-faulted-task-wrote k cpu p None there was = same-wrote k cpu k was (record { processors = refl; spin_locks = refl })
+faulted-task-wrote k cpu p None there was = same-wrote k cpu k was (record { processors = refl; spin_locks = refl; standard = refl })
 faulted-task-wrote k cpu p (Some id) there was =
     let on : KernelState = with_tasks k (noted without_activation k.tasks id) in
     let only : Same (ended_in on id) on = same-ended on id in
@@ -373,7 +373,7 @@ faulted-by false k cpu p test there was = faulted-task-wrote k cpu p p.running t
 
 faulted-wrote : (k : KernelState) (cpu : ℕ) (found : Option Processor) → processor_at k cpu ≡ found → IsLocking k →
     Wrote k cpu (faulted_in k cpu found)
-faulted-wrote k cpu None there was = same-wrote k cpu k was (record { processors = refl; spin_locks = refl })
+faulted-wrote k cpu None there was = same-wrote k cpu k was (record { processors = refl; spin_locks = refl; standard = refl })
 faulted-wrote k cpu (Some p) there was = faulted-by (is_some p.handling) k cpu p refl there was
 
 pub fault-wrote : (k : KernelState) (cpu : ℕ) → IsLocking k → Wrote k cpu (ended_by_fault k cpu)
@@ -410,10 +410,10 @@ pub same-ticked : (k : KernelState) → Same (ticked_on k (advanced k.time)) k
 same-ticked k =
     let only : Same (ticked_on k (advanced k.time)) (record k { time = advanced k.time }) =
     same-timed (record k { time = advanced k.time }) (due_from (advanced k.time) 0) in
-    record { processors = only.processors; spin_locks = only.spin_locks }
+    record { processors = only.processors; spin_locks = only.spin_locks; standard = only.standard }
 
 pub same-pending : (k : KernelState) (line : ℕ) → Same (with_pending k line) k
-same-pending k line = record { processors = refl; spin_locks = refl }
+same-pending k line = record { processors = refl; spin_locks = refl; standard = refl }
 
 -- What is left holds.
 

@@ -30,13 +30,14 @@ pub record OnlyLists (k new : KernelState) : Type 0 where
   pub time : new.time ≡ k.time
   pub processors : new.processors ≡ k.processors
   pub spin_locks : new.spin_locks ≡ k.spin_locks
+  pub standard : new.standard ≡ k.standard
 
 nothing : (k : KernelState) → OnlyLists k k
-nothing k = record { tasks = refl; time = refl; processors = refl; spin_locks = refl }
+nothing k = record { tasks = refl; time = refl; processors = refl; spin_locks = refl; standard = refl }
 
 of-only : (change : Change) (k : KernelState) (what : WaitKind) → OnlyLists k (changed_of change k what)
-of-only change k kind.Semaphore = record { tasks = refl; time = refl; processors = refl; spin_locks = refl }
-of-only change k _ = record { tasks = refl; time = refl; processors = refl; spin_locks = refl }
+of-only change k kind.Semaphore = record { tasks = refl; time = refl; processors = refl; spin_locks = refl; standard = refl }
+of-only change k _ = record { tasks = refl; time = refl; processors = refl; spin_locks = refl; standard = refl }
 
 for-only : (change : Change) (k : KernelState) (why : Option WaitReason) → OnlyLists k (changed_for change k why)
 for-only change k None = nothing k

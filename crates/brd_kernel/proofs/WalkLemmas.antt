@@ -132,7 +132,7 @@ pub record Law (Known : Fact → Type 0) (Q : KernelState → Type 0) (k : Kerne
       Q (with_wait k caller reason.Sleep due k)
   pub delays : (due : ℕ) → Known Unheld → Q (with_wait k caller reason.Delay (Some due) k)
   -- of a processor
-  pub rotates : (priority : ℕ) (p : Processor) → processor_at k cpu ≡ Some p → Q (with_tasks k (turned k.tasks cpu priority))
+  pub rotates : (on priority : ℕ) (p : Processor) → processor_at k on ≡ Some p → Q (with_tasks k (turned k.tasks on priority))
   pub marks : (p q : Processor) → processor_at k cpu ≡ Some p → q.running ≡ p.running → Holding Known k p q → Q (with_processor k cpu q)
   pub returns : (p : Processor) → processor_at k cpu ≡ Some p → Q (handler_ended k cpu p)
   -- of a semaphore
@@ -157,6 +157,8 @@ pub record Law (Known : Fact → Type 0) (Q : KernelState → Type 0) (k : Kerne
   -- of the board
   pub writes : (word : ℕ) → Q (record k { console = k.console ++ word % 2 ^ 8 ∷ [] })
   pub ends_all : Q (record k { off = true })
+  -- of the system time
+  pub sets_clock : (clock : ℕ) → Q (record k { clock = clock })
 
 -- What a call may do to its caller: it goes on; it takes a spin lock; it is no longer CPU-locked; it may wait for so
 -- long, or for 0 only polls; it waits; it names the task that is to stop, which may be itself; or it ends.
@@ -323,8 +325,8 @@ walk Q k cpu caller law (call.MigTsk t to) may told =
 walk Q k cpu caller law call.GetPid may told = leaves-row Q (table.get_pid k cpu) (λ x passes. law.stays)
 walk Q k cpu caller law (call.RotRdq priority) may told =
     leaves-row Q (table.rot_rdq k cpu caller priority)
-    (λ p passes. law.rotates (table.priority_or_callers priority (callers_priority k caller)) p passes.there)
-walk Q k cpu caller law (call.IrotRdq priority) may told = leaves-row Q (table.irot_rdq k cpu priority) (λ p passes. law.rotates priority p passes.there)
+    (λ p passes. law.rotates cpu (table.priority_or_callers priority (callers_priority k caller)) p passes.there)
+walk Q k cpu caller law (call.IrotRdq priority) may told = leaves-row Q (table.irot_rdq k cpu priority) (λ p passes. law.rotates cpu priority p passes.there)
 walk Q k cpu caller law call.GetTid may told = leaves-row Q (table.get_tid k caller) (λ x passes. law.stays)
 walk Q k cpu caller law call.DisDsp may told =
     leaves-row Q (table.mark_dsp k cpu true) (λ (p : Processor) passes. law.marks p (record p { disabled = true }) passes.there refl stays-locked)
@@ -379,6 +381,17 @@ walk Q k cpu caller law (call.TrySpn id) may told =
     leaves-row Q (table.try_spn k cpu id) (λ (lock : Spin) passes. takes-lock Q k cpu caller law id lock passes.there passes.obj may)
 walk Q k cpu caller law (call.UnlSpn id) may told =
     leaves-row Q (table.unl_spn k cpu id) (λ (lock : Spin) passes. gives-by Q k cpu caller law (processor_at k cpu) refl)
+walk Q k cpu caller law call.GetTim may told = leaves-row Q (table.get_tim k) (λ x passes. law.stays)
+walk Q k cpu caller law (call.SetTim time) may told = leaves-row Q (table.set_tim k time) (λ x passes. law.sets_clock (table.clock_for k time))
+walk Q k cpu caller law (call.Sns what) may told = leaves-row Q (table.sns k cpu what) (λ p passes. law.stays)
+walk Q k cpu caller law (call.MgetTid on) may told = leaves-row Q (table.mget_tid k on) (λ p passes. law.stays)
+walk Q k cpu caller law (call.MrotRdq priority on) may told =
+    leaves-row Q (table.mrot_rdq k caller priority on)
+    (λ p passes. law.rotates on (table.priority_or_callers priority (callers_priority k caller)) p passes.there)
+walk Q k cpu caller law (call.RefTsk t word) may told = leaves-row Q (table.ref_tsk k (named caller t) word) (λ task passes. law.stays)
+walk Q k cpu caller law (call.RefSem s word) may told = leaves-row Q (table.ref_sem k s word) (λ (s : Semaphore) passes. law.stays)
+walk Q k cpu caller law (call.RefFlg f word) may told = leaves-row Q (table.ref_flg k f word) (λ (f : Flag) passes. law.stays)
+walk Q k cpu caller law (call.RefDtq q word) may told = leaves-row Q (table.ref_dtq k q word) (λ (q : DataQueueState) passes. law.stays)
 
 -- what a call leaves, refused or not
 pub serve-leaves : {Known : Fact → Type 0} (Q : KernelState → Type 0) (k : KernelState) (cpu : ℕ) (law : Law Known Q k cpu (caller_on k cpu))

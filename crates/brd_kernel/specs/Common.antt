@@ -13,6 +13,8 @@ use Rattle.brd_kernel.specs.Always.{IsKernel, AreQuiet, task_executing}
 abbrev pub kernel_of : Common → Table Semaphore → Table Flag → Table DataQueueState → KernelState
 kernel_of c semaphores flags queues = record {
   off = c.off;
+  standard = c.standard;
+  clock = c.clock;
   time = c.time;
   tasks = c.tasks;
   semaphores = semaphores;

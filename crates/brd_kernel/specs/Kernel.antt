@@ -22,6 +22,8 @@ use Rattle.brd_kernel.specs.declared.processor.Standing.TheVariants as standing
 
 pub record KernelState : Type 0 where
   pub off : Bool
+  pub standard : Bool  -- it has the profile PROFILE(STANDARD), so the calls above 63; never changes
+  pub clock : ℕ  -- what the system time was before the first tick; it goes on with the ticks, modulo 2^32
   pub time : Time  -- the ticks so far, and when waits end
   pub tasks : TaskTable
   pub semaphores : Table Semaphore  -- by ID, 256 of them, as the two below

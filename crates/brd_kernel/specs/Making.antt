@@ -47,10 +47,12 @@ is_configured configs id = list_any (λ config. config.id == id) configs
 unfoldable pub made_spin_locks : List SpinLockConfig → ℕ → List Bool
 made_spin_locks configs count = map (is_configured configs) (range_with_len 0 count)
 
-abbrev pub made_kernel : ℕ → List TaskSetup → List LineSetup → List SemaphoreConfig → List FlagConfig →
+abbrev pub made_kernel : Bool → ℕ → List TaskSetup → List LineSetup → List SemaphoreConfig → List FlagConfig →
     List QueueConfig → List SpinLockConfig → KernelState
-made_kernel processors setups lines semaphores flags queues spin_locks = record {
+made_kernel standard processors setups lines semaphores flags queues spin_locks = record {
   off = false;
+  standard = standard;
+  clock = 0;
   time = beginning;
   tasks = made setups;
   semaphores = made_semaphores semaphores;

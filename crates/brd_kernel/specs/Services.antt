@@ -1,14 +1,17 @@
 -- The service table: a row a call, in the order of their numbers (uITRON 4.0 specification; mact_tsk, imact_tsk,
 -- mig_tsk, get_pid and the calls of spin locks: TOPPERS/FMP; put_chr, ext_ker and ret_int, how spin locks behave, the
--- refusals and their order: own choice). A row begins with the object that the call names and refuses nothing but an
+-- refusals and their order: own choice). Those above 63 are there in the profile PROFILE(STANDARD) alone: the gate has
+-- no other number without it. A row begins with the object that the call names and refuses nothing but an
 -- ID that is none (E_ID, E_NOEXS); what it fills in is what its line of the table says. T is a task's ID, T0 may be 0
 -- for the caller, L is a spin lock's.
-use Rattle.std.specs.Prelude.{ℕ, ◌%◌, ◌^◌, ◌-◌, ◌==◌, nat_lt, nat_le, Bool, true, false, not, ◌&&◌, ◌||◌, if◌then◌else◌}
-use Rattle.std.specs.Prelude.{List, [], ◌∷◌, ◌++◌, length, slice_set, Option, None, Some, is_some, unwrap_or, Result}
+use Rattle.std.specs.Prelude.{ℕ, ◌+◌, ◌%◌, ◌^◌, ◌-◌, ◌==◌, nat_lt, nat_le, Bool, true, false, not, ◌&&◌, ◌||◌, if◌then◌else◌}
+use Rattle.std.specs.Prelude.{List, [], ◌∷◌, ◌++◌, length, slice_index, slice_set, Option, None, Some, is_some, unwrap_or, Result}
 use Rattle.std.specs.Prelude.{Err}
 use Rattle.brd_tasks.specs.declared.status.Status.{Status}
+use Rattle.brd_tasks.specs.declared.status.Status.TheVariants as status
 use Rattle.brd_tasks.specs.declared.status.WaitReason.{WaitReason}
 use Rattle.brd_tasks.specs.declared.status.WaitReason.TheVariants as reason
+use Rattle.brd_tasks.specs.declared.status.WaitKind.{WaitKind}
 use Rattle.brd_tasks.specs.declared.status.WaitKind.TheVariants as kind
 use Rattle.brd_tasks.specs.declared.task.Task.{Task}
 use Rattle.brd_tasks.specs.declared.task.Request.TheVariants.{Assigned, On}
@@ -27,15 +30,19 @@ use Rattle.brd_objects.specs.Table.{object_at, object_changed}
 use Rattle.brd_objects.specs.Semaphores.{returned, first_waiter, is_full, has_one, taken, semaphore_awaited}
 use Rattle.brd_objects.specs.Flags.{joined, masked, pattern_for, taken_for, is_occupied, flag_awaited, all_released}
 use Rattle.brd_objects.specs.Flags.{with_all_released}
+use Rattle.brd_objects.specs.Waiters.{first_in}
 use Rattle.brd_objects.specs.DataQueues.{DataQueueState, sent, outcome, forced, forced_outcome, received, receipt}
 use Rattle.brd_objects.specs.DataQueues.{awaited_by_sender, awaited_by_receiver}
-use Rattle.brd_kernel.specs.Waits.{is_bad_timeout, due_after, due_by, priority_of, with_wait, released_in, broken_off}
+use Rattle.brd_time.specs.Time.{due_of}
+use Rattle.brd_kernel.specs.Waits.{forever, is_bad_timeout, due_after, due_by, priority_of, with_wait, released_in, broken_off}
 use Rattle.brd_kernel.specs.Waits.{ended_in, reordered_in}
 use Rattle.brd_kernel.specs.declared.processor.Processor.{Processor}
 use Rattle.brd_kernel.specs.declared.processor.Spin.{Spin}
 use Rattle.brd_kernel.specs.declared.processor.Spin.TheVariants.{Free, Held}
 use Rattle.brd_kernel.specs.declared.call.Call.{Call}
 use Rattle.brd_kernel.specs.declared.call.Call.TheVariants as call
+use Rattle.brd_kernel.specs.declared.call.Sensed.{Sensed}
+use Rattle.brd_kernel.specs.declared.call.Sensed.TheVariants as sense
 use Rattle.brd_kernel.specs.declared.call.Ercd.{Ercd}
 use Rattle.brd_kernel.specs.declared.call.Ercd.TheVariants.{Rlwai, Tmout}
 use Rattle.brd_kernel.specs.Answer.{e_ok, code_of}
@@ -154,6 +161,97 @@ is_bad_want bits mode = bits == 0 || nat_lt 1 mode
 abbrev pub longest_delay : ℕ
 longest_delay = 2 ^ 31 - 1
 
+-- What the calls of the profile tell.
+
+-- true is 1, false 0
+abbrev pub bit_word : Bool → ℕ
+bit_word true = 1
+bit_word false = 0
+
+-- what sns_ctx, sns_loc, sns_dsp and sns_dpn tell of the processor that they come from
+abbrev pub sensed : Processor → Sensed → Bool
+sensed p sense.Context = is_some p.handling
+sensed p sense.Locked = p.locked
+sensed p sense.Disabled = p.disabled
+sensed p sense.Pending = is_held p
+
+-- the system time, in ticks of a millisecond
+abbrev pub system_time : KernelState → ℕ
+system_time k = (k.clock + k.time.count) % 2 ^ 32
+
+-- what it was before the first tick, where it is this now
+abbrev pub clock_for : KernelState → ℕ → ℕ
+clock_for k time = (time + (2 ^ 32 - k.time.count % 2 ^ 32)) % 2 ^ 32
+
+-- TTS_RDY, TTS_WAI, TTS_SUS, TTS_WAS, TTS_DMT; TTS_RUN of a running task
+
+abbrev pub status_word : Status → ℕ
+status_word status.Dormant = 16
+status_word status.Ready = 2
+status_word (status.Waiting why) = 4
+status_word status.Suspended = 8
+status_word (status.WaitingSuspended why) = 12
+
+abbrev pub state_word : Bool → Status → ℕ
+state_word true status = 1
+state_word false status = status_word status
+
+-- TTW_SEM, TTW_FLG, TTW_SDTQ, TTW_RDTQ
+abbrev pub kind_word : WaitKind → ℕ
+kind_word kind.Semaphore = 4
+kind_word kind.Flag = 8
+kind_word kind.Room = 16
+kind_word kind.Datum = 32
+
+-- TTW_SLP, TTW_DLY, and those; 0 where it doesn't wait
+abbrev pub wait_word : Option WaitReason → ℕ
+wait_word None = 0
+wait_word (Some reason.Sleep) = 1
+wait_word (Some reason.Delay) = 2
+wait_word (Some (reason.On what object)) = kind_word what
+
+-- the ID of the object that it waits for, or 0
+abbrev pub object_word : Option WaitReason → ℕ
+object_word None = 0
+object_word (Some reason.Sleep) = 0
+object_word (Some reason.Delay) = 0
+object_word (Some (reason.On what object)) = object
+
+-- How many ticks are left of a wait, without the one that ends it: 0 where the next tick does. TMO_FEVR where none
+-- does; 0 where it doesn't wait.
+
+abbrev pub ticks_left : ℕ → Option ℕ → ℕ
+ticks_left count None = forever
+ticks_left count (Some due) = (due - count - 1) % 2 ^ 32
+
+abbrev pub left_word : ℕ → Option ℕ → Bool → ℕ
+left_word count due false = 0
+left_word count due true = ticks_left count due
+
+-- T_RTSK: tskstat, tskpri, tskbpri, tskwait, wobjid, lefttmo, actcnt, wupcnt, suscnt
+abbrev pub task_words : KernelState → ℕ → Task → List ℕ
+task_words k id task =
+    state_word (is_same_task (running_on k task.cpu) (Some id)) task.status ∷ task.priority ∷ task.priority
+    ∷ wait_word (waiting_of task.status) ∷ object_word (waiting_of task.status)
+    ∷ left_word k.time.count (due_of k.time id) (is_waiting task.status) ∷ activations_of task.activation
+    ∷ wakeups_of task.wakeup ∷ bit_word (is_suspended task.status) ∷ []
+
+-- a task's ID, or TSK_NONE
+abbrev pub id_or_none : Option ℕ → ℕ
+id_or_none id = unwrap_or id 0
+
+-- T_RSEM: wtskid, semcnt
+abbrev pub semaphore_words : Semaphore → List ℕ
+semaphore_words s = id_or_none (first_waiter s) ∷ s.count ∷ []
+
+-- T_RFLG: wtskid, flgptn
+abbrev pub flag_words : Flag → List ℕ
+flag_words f = id_or_none (first_in f.waiters) ∷ f.pattern ∷ []
+
+-- T_RDTQ: stskid, rtskid, sdtqcnt
+abbrev pub queue_words : DataQueueState → List ℕ
+queue_words q = id_or_none (first_in q.senders) ∷ id_or_none (first_in q.receivers) ∷ length q.stored ∷ []
+
 -- Effects that several calls share.
 
 -- the caller waits, or where it polls is answered E_TMOUT; `entered` is the kernel in which it stands in the list of
@@ -262,7 +360,7 @@ mig_tsk k cpu id to = record (on_task k id) {
   does = λ task. ok (with_tasks k (changed (on_processor to) k.tasks id));
 }
 
--- 9 get_pid. Second result: the caller's processor.
+-- 9 get_pid, 112 iget_pid. Second result: the processor that the call comes from.
 abbrev pub get_pid : KernelState → ℕ → Row (Unit {0})
 get_pid k cpu = record (on_nothing k) { does = λ x. ok_with k cpu }
 
@@ -331,7 +429,7 @@ sus_tsk k cpu id = record (on_task k id) {
   does = λ task. ok (with_tasks k (through suspended k.tasks id));
 }
 
--- 22 rsm_tsk T. Refuses: OBJ not suspended.
+-- 22 rsm_tsk T, 70 frsm_tsk T. Refuses: OBJ not suspended.
 abbrev pub rsm_tsk : KernelState → ℕ → Row Task
 rsm_tsk k id = record (on_task k id) {
   obj = λ task. not (is_suspended task.status);
@@ -499,6 +597,61 @@ unl_spn k cpu id = record (on_spin_lock k id) {
   does = λ lock. ok (lock_given k cpu);
 }
 
+-- 64 get_tim. Second result: the system time.
+abbrev pub get_tim : KernelState → Row (Unit {0})
+get_tim k = record (on_nothing k) { does = λ x. ok_with k (system_time k) }
+
+-- 65 set_tim time. The system time is this from then on, and goes on with the ticks.
+abbrev pub set_tim : KernelState → ℕ → Row (Unit {0})
+set_tim k time = record (on_nothing k) { does = λ x. ok (record k { clock = clock_for k time }) }
+
+-- 66 sns_ctx, 67 sns_loc, 68 sns_dsp, 69 sns_dpn. Answers 1 in a handler; while the processor is CPU-locked; while it
+-- has dispatching disabled; while it is held. Else 0.
+abbrev pub sns : KernelState → ℕ → Sensed → Row Processor
+sns k cpu what = record (on_own_processor k cpu) { does = λ p. ok_count k (bit_word (sensed p what)) }
+
+-- 71 mget_tid processor. Refuses: PAR no such processor. Second result: its running task, 0 where none runs.
+abbrev pub mget_tid : KernelState → ℕ → Row Processor
+mget_tid k on = record (on_own_processor k on) {
+  bad_par = is_no_processor k on;
+  does = λ p. ok_with k (id_or_none p.running);
+}
+
+-- 72 mrot_rdq priority, processor. Refuses: PAR not 0 to 16, or no such processor. As rot_rdq, on that processor.
+abbrev pub mrot_rdq : KernelState → ℕ → ℕ → ℕ → Row Processor
+mrot_rdq k caller priority on = record (on_own_processor k on) {
+  bad_par = nat_lt 16 priority || is_no_processor k on;
+  does = λ p. ok (with_tasks k (turned k.tasks on (priority_or_callers priority (callers_priority k caller))));
+}
+
+-- 73 ref_tsk T0, word. Refuses: PAR above 8. Second result: that word of T_RTSK.
+abbrev pub ref_tsk : KernelState → ℕ → ℕ → Row Task
+ref_tsk k id word = record (on_task k id) {
+  bad_par = nat_lt 8 word;
+  does = λ task. ok_with k (slice_index (task_words k id task) word);
+}
+
+-- 74 ref_sem S, word. Refuses: PAR above 1. Second result: that word of T_RSEM.
+abbrev pub ref_sem : KernelState → ℕ → ℕ → Row Semaphore
+ref_sem k id word = record (on_semaphore k id) {
+  bad_par = nat_lt 1 word;
+  does = λ s. ok_with k (slice_index (semaphore_words s) word);
+}
+
+-- 75 ref_flg F, word. Refuses: PAR above 1. Second result: that word of T_RFLG.
+abbrev pub ref_flg : KernelState → ℕ → ℕ → Row Flag
+ref_flg k id word = record (on_flag k id) {
+  bad_par = nat_lt 1 word;
+  does = λ f. ok_with k (slice_index (flag_words f) word);
+}
+
+-- 76 ref_dtq Q, word. Refuses: PAR above 2. Second result: that word of T_RDTQ.
+abbrev pub ref_dtq : KernelState → ℕ → ℕ → Row DataQueueState
+ref_dtq k id word = record (on_queue k id) {
+  bad_par = nat_lt 2 word;
+  does = λ q. ok_with k (slice_index (queue_words q) word);
+}
+
 -- The rows by calls.
 
 abbrev pub serve_by : KernelState → ℕ → ℕ → Call → Result Served Ercd
@@ -542,6 +695,15 @@ serve_by k cpu caller call.RetInt = served (ret_int k cpu)
 serve_by k cpu caller (call.LocSpn l) = served (loc_spn k cpu l)
 serve_by k cpu caller (call.TrySpn l) = served (try_spn k cpu l)
 serve_by k cpu caller (call.UnlSpn l) = served (unl_spn k cpu l)
+serve_by k cpu caller call.GetTim = served (get_tim k)
+serve_by k cpu caller (call.SetTim time) = served (set_tim k time)
+serve_by k cpu caller (call.Sns what) = served (sns k cpu what)
+serve_by k cpu caller (call.MgetTid on) = served (mget_tid k on)
+serve_by k cpu caller (call.MrotRdq priority on) = served (mrot_rdq k caller priority on)
+serve_by k cpu caller (call.RefTsk t word) = served (ref_tsk k (named caller t) word)
+serve_by k cpu caller (call.RefSem s word) = served (ref_sem k s word)
+serve_by k cpu caller (call.RefFlg f word) = served (ref_flg k f word)
+serve_by k cpu caller (call.RefDtq q word) = served (ref_dtq k q word)
 
 -- the number of the running task of a processor; 0 where none runs
 abbrev pub caller_on : KernelState → ℕ → ℕ

@@ -86,6 +86,37 @@ pub enum Call {
     ExtKer,
     /// Ends the handler.
     RetInt,
+    /// Tells the system time.
+    GetTim,
+    /// Gives the system time.
+    SetTim(u32),
+    /// Tells a state of the processor that the call comes from.
+    Sns(Sensed),
+    /// Tells the running task of a processor.
+    MgetTid(u32),
+    /// Puts the first ready task of a priority after its equals (priority, processor).
+    MrotRdq(u32, u32),
+    /// Tells a word of what is known of a task (ID, word).
+    RefTsk(u32, u32),
+    /// Tells a word of what is known of a semaphore (ID, word).
+    RefSem(u32, u32),
+    /// Tells a word of what is known of an event flag (ID, word).
+    RefFlg(u32, u32),
+    /// Tells a word of what is known of a data queue (ID, word).
+    RefDtq(u32, u32),
+}
+
+/// A state of the processor that a call comes from.
+#[derive(Clone, Copy, PartialEq, Eq)]
+pub enum Sensed {
+    /// A handler runs.
+    Context,
+    /// It is CPU-locked.
+    Locked,
+    /// Dispatching is disabled.
+    Disabled,
+    /// It is held, so that no task comes to run.
+    Pending,
 }
 
 /// Why a service call isn't done, or a wait ended without what was waited for (uITRON 4.0 specification, "Main Error

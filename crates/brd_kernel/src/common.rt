@@ -14,6 +14,10 @@ use brd_time::Timeouts;
 pub struct Common {
     /// Whether the board is off.
     pub off: bool,
+    /// Whether the kernel has the profile.
+    pub standard: bool,
+    /// What the system time was before the first tick.
+    pub clock: u32,
     /// The ticks so far, and when waits end.
     pub time: Timeouts,
     /// The tasks.
@@ -42,6 +46,8 @@ impl Common {
     {
         Ok(Common {
             off: self.off,
+            standard: self.standard,
+            clock: self.clock,
             time: self.time.try_copy()?,
             tasks: self.tasks.try_copy()?,
             spin_locks: copy_with_room(&self.spin_locks, 0)?,

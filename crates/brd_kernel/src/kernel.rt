@@ -32,6 +32,7 @@ ghost use Rattle.brd_kernel.specs.Lending.{LendsContext};
 mod interrupts;
 mod objects;
 mod processors;
+mod profile;
 mod saved;
 mod serve;
 mod spin_locks;
@@ -90,9 +91,10 @@ impl Drop for Kernel {
 
 impl Kernel {
     /// A board's kernel with this many processors, these tasks, none of them started, these interrupt handlers and
-    /// these objects. A line that isn't named has no handler, and nothing is pending.
+    /// these objects, with the profile or without. A line that isn't named has no handler, and nothing is pending.
     pub fn new(
         alloc: Global,
+        standard: bool,
         processors: u8,
         tasks: &[TaskSetup],
         lines: &[LineSetup],
@@ -105,11 +107,13 @@ impl Kernel {
         requires setups { All IsSetup tasks.now }
         ensures { IfOk result
             (λ kernel. kernel
-            ≡ made_kernel processors tasks.now lines.now semaphores.now flags.now queues.now spin_locks.now) }
+            ≡ made_kernel standard processors tasks.now lines.now semaphores.now flags.now queues.now spin_locks.now) }
     {
         Ok(Kernel {
             common: Common {
                 off: false,
+                standard,
+                clock: 0,
                 time: Timeouts::new(alloc)?,
                 tasks: Tasks::new(alloc, tasks)?,
                 spin_locks: spin_locks_of(alloc, spin_locks)?,
@@ -143,8 +147,16 @@ impl Kernel {
         ensures { Decides result (self.now ≡ other.now) }
     {
         self.is_off() == other.is_off()
+            && self.has_same_profile(other)
             && self.has_same_tables(other)
             && self.has_same_processors(other)
+    }
+
+    /// Whether both have the profile or neither, and the same system time before the first tick.
+    fn has_same_profile(&self, other: &Kernel) -> bool
+        ensures { Decides result ((self.now.standard ≡ other.now.standard) × (self.now.clock ≡ other.now.clock)) }
+    {
+        self.common.standard == other.common.standard && self.common.clock == other.common.clock
     }
 
     /// Whether both have the same time, tasks and objects.
@@ -285,6 +297,13 @@ impl Kernel {
         ensures { result ≡ self.now.off }
     {
         self.common.off
+    }
+
+    /// Whether it has the profile, which `PROFILE(STANDARD);` asks for.
+    pub fn is_standard(&self) -> bool
+        ensures { result ≡ self.now.standard }
+    {
+        self.common.standard
     }
 
     /// Who executes on a processor, if somebody does.

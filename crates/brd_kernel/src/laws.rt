@@ -1,6 +1,6 @@
 //! What is true of the service table, of dispatch and of waits.
 
-ghost use Rattle.std.specs.Prelude.{◌≡◌, ℕ, false, true, List, None, Some};
+ghost use Rattle.std.specs.Prelude.{◌≡◌, ℕ, Bool, false, true, List, None, Some};
 ghost use Rattle.brd_tasks.specs.Tasks.{top_of};
 ghost use Rattle.brd_tasks.specs.declared.task.TaskSetup.{TaskSetup as SetupOf};
 ghost use Rattle.brd_config.specs.declared.objects.SemaphoreConfig.{SemaphoreConfig};
@@ -41,14 +41,21 @@ pub fn dispatch_gives_each_its_first()
 /// priority, no task stands in front of one with a higher priority; no task waits for something that it could have at
 /// once; only a task that waits has a due tick, and a delay has one.
 pub fn who_waits_stands_in_its_list()
-    ensures made { (processors : ℕ) (setups : List SetupOf) (lines : List LineOf)
+    ensures made { (standard : Bool) (processors : ℕ) (setups : List SetupOf) (lines : List LineOf)
         (semaphores : List SemaphoreConfig) (flags : List FlagConfig) (queues : List QueueConfig)
         (spin_locks : List SpinLockConfig) →
-        WaitsAreKept (made_kernel processors setups lines semaphores flags queues spin_locks) }
+        WaitsAreKept (made_kernel standard processors setups lines semaphores flags queues spin_locks) }
     ensures call { (k : KernelState) (cpu : ℕ) (asked : CallOf) → WaitsAreKept k →
         WaitsAreKept (serve_of k cpu asked).kernel }
     ensures tick { (k : KernelState) → WaitsAreKept k → WaitsAreKept (ticked k) }
     ensures fault { (k : KernelState) (cpu : ℕ) → WaitsAreKept k → WaitsAreKept (ended_by_fault k cpu) }
+{}
+
+/// Whether a kernel has the profile stays as it is, through every service call, tick and exception.
+pub fn the_profile_stays()
+    ensures call { (k : KernelState) (cpu : ℕ) (asked : CallOf) → (serve_of k cpu asked).kernel.standard ≡ k.standard }
+    ensures tick { (k : KernelState) → (ticked k).standard ≡ k.standard }
+    ensures fault { (k : KernelState) (cpu : ℕ) → (ended_by_fault k cpu).standard ≡ k.standard }
 {}
 
 /// This holds of a kernel as it is made, and every tick, exception and dispatch keeps it (as does every service call
@@ -56,10 +63,10 @@ pub fn who_waits_stands_in_its_list()
 /// one processor holds it; and a processor that holds one is CPU-locked, handles no interrupt and isn't stopped, and a
 /// task runs on it.
 pub fn a_spin_lock_has_one_holder()
-    ensures made { (processors : ℕ) (setups : List SetupOf) (lines : List LineOf)
+    ensures made { (standard : Bool) (processors : ℕ) (setups : List SetupOf) (lines : List LineOf)
         (semaphores : List SemaphoreConfig) (flags : List FlagConfig) (queues : List QueueConfig)
         (spin_locks : List SpinLockConfig) →
-        AreLocks (made_kernel processors setups lines semaphores flags queues spin_locks) }
+        AreLocks (made_kernel standard processors setups lines semaphores flags queues spin_locks) }
     ensures tick { (k : KernelState) → AreLocks k → AreLocks (ticked k) }
     ensures fault { (k : KernelState) (cpu : ℕ) → AreLocks k → AreLocks (ended_by_fault k cpu) }
     ensures dispatch { (k : KernelState) → AreLocks k → AreLocks (dispatched k) }

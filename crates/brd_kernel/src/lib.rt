@@ -14,7 +14,7 @@ mod making;
 mod processor;
 
 pub use brd_tasks::{Request, TaskId, TaskSetup, TaskState, TaskView, WaitKind, WaitReason};
-pub use call::{Call, Ercd, Reply};
+pub use call::{Call, Ercd, Reply, Sensed};
 pub use kernel::{Kernel, SavedKernel};
 pub use processor::{
     Executor, Handler, InterruptLine, LineSetup, Marks, Processor, Spin, Standing,

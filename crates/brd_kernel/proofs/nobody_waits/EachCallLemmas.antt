@@ -88,7 +88,7 @@ each-law k cpu caller was =
       sleeps = λ due task there none may.
           wait-kept k caller reason.Sleep due k (λ x at asleep. ap wakeup_in (sym at ∙ there) ∙ none) was was;
       delays = λ due may. wait-kept k caller reason.Delay (Some due) k (no-sleep k caller reason.Delay refl) was was;
-      rotates = λ given p there. tasks-kept k (turned k.tasks cpu given) was.sleepers was;
+      rotates = λ on given p there. tasks-kept k (turned k.tasks on given) was.sleepers was;
       marks = λ p q there same how. processor-kept k cpu q was;
       returns = λ p there. others-kept k (handler_ended k cpu p) refl refl refl was.sleepers was;
       signals = λ id s there. released-if (record k { semaphores = object_changed returned k.semaphores id }) (first_waiter s)
@@ -107,6 +107,7 @@ each-law k cpu caller was =
           (no-sleep k caller (reason.On (lacked lacks) id) refl) was (entered-kept k caller id lacks was);
       writes = λ word. others-kept k (record k { console = k.console ++ word % 2 ^ 8 ∷ [] }) refl refl refl was.sleepers was;
       ends_all = others-kept k (record k { off = true }) refl refl refl was.sleepers was;
+      sets_clock = λ clock. others-kept k (record k { clock = clock }) refl refl refl was.sleepers was;
     }
 
 pub serve-kept : (k : KernelState) (cpu : ℕ) (c : Call) → EachIsKept k → EachIsKept (serve_of k cpu c).kernel

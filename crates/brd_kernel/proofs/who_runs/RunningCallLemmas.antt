@@ -280,8 +280,8 @@ holds-law k cpu p found was =
       breaks = λ id answer. runs-hold (broken_off k id answer) (broken-runs k id answer was);
       sleeps = λ due task there none may. wait-holds k cpu caller reason.Sleep due k p refl found may was;
       delays = λ due may. wait-holds k cpu caller reason.Delay (Some due) k p refl found may was;
-      rotates = λ priority q there. tasks-hold k (turned k.tasks cpu priority)
-          (turned-keeps k.tasks cpu priority was.tasks (omega (arith, (number-there k cpu q was there).1))) was;
+      rotates = λ on priority q there. tasks-hold k (turned k.tasks on priority)
+          (turned-keeps k.tasks on priority was.tasks (omega (arith, (number-there k on q was there).1))) was;
       marks = λ q new there same how. runs-hold (with_processor k cpu new) (marked-runs k cpu q new there same was);
       returns = λ q there. ended-handler-holds k cpu q there was;
       signals = λ id (s : Semaphore) there. let new : KernelState = record k { semaphores = object_changed returned k.semaphores id } in
@@ -301,6 +301,7 @@ holds-law k cpu p found was =
           (same-entered k caller id lacks).processors found may was;
       writes = λ word. parts-hold k (record k { console = k.console ++ word % 2 ^ 8 ∷ [] }) refl refl was;
       ends_all = parts-hold k (record k { off = true }) refl refl was;
+      sets_clock = λ clock. parts-hold k (record k { clock = clock }) refl refl was;
     }
 
 -- a call that the gate lets through

@@ -63,18 +63,18 @@ nobody-made id_of object_of configs at list none some =
     made-by (nat_lt at 256) id_of object_of configs 256 at (λ found. list found ≡ []) refl none
     (nobody-at object_of list (find (λ c. id_of c == at) configs) none some)
 
-nobody-waits : (processors : ℕ) (setups : List TaskSetup) (lines : List LineSetup) (semaphores : List SemaphoreConfig) (flags : List FlagConfig) (queues : List QueueConfig) (spin_locks : List SpinLockConfig)
+nobody-waits : (standard : Bool) (processors : ℕ) (setups : List TaskSetup) (lines : List LineSetup) (semaphores : List SemaphoreConfig) (flags : List FlagConfig) (queues : List QueueConfig) (spin_locks : List SpinLockConfig)
     (why : WaitReason) →
-    standing_for (made_kernel processors setups lines semaphores flags queues spin_locks) why ≡ []
-nobody-waits processors setups lines semaphores flags queues spin_locks reason.Sleep = refl
-nobody-waits processors setups lines semaphores flags queues spin_locks reason.Delay = refl
-nobody-waits processors setups lines semaphores flags queues spin_locks (reason.On kind.Semaphore object) =
+    standing_for (made_kernel standard processors setups lines semaphores flags queues spin_locks) why ≡ []
+nobody-waits standard processors setups lines semaphores flags queues spin_locks reason.Sleep = refl
+nobody-waits standard processors setups lines semaphores flags queues spin_locks reason.Delay = refl
+nobody-waits standard processors setups lines semaphores flags queues spin_locks (reason.On kind.Semaphore object) =
     nobody-made (λ config. config.id) semaphore_of semaphores object semaphore_waiters refl (λ c. refl)
-nobody-waits processors setups lines semaphores flags queues spin_locks (reason.On kind.Flag object) =
+nobody-waits standard processors setups lines semaphores flags queues spin_locks (reason.On kind.Flag object) =
     nobody-made (λ config. config.id) flag_of flags object flag_waiters refl (λ c. refl)
-nobody-waits processors setups lines semaphores flags queues spin_locks (reason.On kind.Room object) =
+nobody-waits standard processors setups lines semaphores flags queues spin_locks (reason.On kind.Room object) =
     nobody-made (λ config. config.id) data_queue_of queues object senders refl (λ c. refl)
-nobody-waits processors setups lines semaphores flags queues spin_locks (reason.On kind.Datum object) =
+nobody-waits standard processors setups lines semaphores flags queues spin_locks (reason.On kind.Datum object) =
     nobody-made (λ config. config.id) data_queue_of queues object receivers refl (λ c. refl)
 
 -- a task that hasn't started waits for nothing
@@ -94,13 +94,13 @@ dues-long : length beginning.dues ≡ 256
 unfolding beginning
 dues-long = refl
 
-made-stands : (processors : ℕ) (setups : List TaskSetup) (lines : List LineSetup) (semaphores : List SemaphoreConfig) (flags : List FlagConfig) (queues : List QueueConfig) (spin_locks : List SpinLockConfig) →
-    StandsIn [] (made_kernel processors setups lines semaphores flags queues spin_locks)
-made-stands processors setups lines semaphores flags queues spin_locks = record {
+made-stands : (standard : Bool) (processors : ℕ) (setups : List TaskSetup) (lines : List LineSetup) (semaphores : List SemaphoreConfig) (flags : List FlagConfig) (queues : List QueueConfig) (spin_locks : List SpinLockConfig) →
+    StandsIn [] (made_kernel standard processors setups lines semaphores flags queues spin_locks)
+made-stands standard processors setups lines semaphores flags queues spin_locks = record {
   rows = rows-length setups 256;
   dues = dues-long;
-  apart = λ why. subst AreApart (sym (nobody-waits processors setups lines semaphores flags queues spin_locks why)) tt;
-  listed = λ id why. ap (priority_in id) (nobody-waits processors setups lines semaphores flags queues spin_locks why)
+  apart = λ why. subst AreApart (sym (nobody-waits standard processors setups lines semaphores flags queues spin_locks why)) tt;
+  listed = λ id why. ap (priority_in id) (nobody-waits standard processors setups lines semaphores flags queues spin_locks why)
       ∙ sym (ap (λ w. wanted w why) (nothing-waited setups id));
   timed = λ id in_it. subst (λ w. IsTimed w (due_of beginning id)) (sym (nothing-waited setups id)) (undue id);
 }
@@ -128,9 +128,9 @@ unstarted-kept : (found : Option TaskSetup) → IfSome (option_map unstarted fou
 unstarted-kept None = tt
 unstarted-kept (Some setup) = λ asleep. refl
 
-made-each : (processors : ℕ) (setups : List TaskSetup) (lines : List LineSetup) (semaphores : List SemaphoreConfig) (flags : List FlagConfig) (queues : List QueueConfig) (spin_locks : List SpinLockConfig) →
-    EachIsKept (made_kernel processors setups lines semaphores flags queues spin_locks)
-made-each processors setups lines semaphores flags queues spin_locks = record {
+made-each : (standard : Bool) (processors : ℕ) (setups : List TaskSetup) (lines : List LineSetup) (semaphores : List SemaphoreConfig) (flags : List FlagConfig) (queues : List QueueConfig) (spin_locks : List SpinLockConfig) →
+    EachIsKept (made_kernel standard processors setups lines semaphores flags queues spin_locks)
+made-each standard processors setups lines semaphores flags queues spin_locks = record {
   sleepers = λ at. row-at (nat_lt at 256) setups 256 at refl (λ row. IfSome row (λ task. SleeperIsKept task)) tt
       (unstarted-kept (find (λ setup. setup.id == at) setups));
   semaphores = λ at. each-first (λ s. SemaphoreIsKept s) (λ config. config.id) semaphore_of semaphores at
@@ -141,12 +141,12 @@ made-each processors setups lines semaphores flags queues spin_locks = record {
       (λ c. record { ordered = empty-in-order ℕ (order_of c.attributes.0); room = λ has. refl; datum = λ some. (refl, refl) });
 }
 
-pub made-keeps : (processors : ℕ) (setups : List TaskSetup) (lines : List LineSetup) (semaphores : List SemaphoreConfig) (flags : List FlagConfig)
+pub made-keeps : (standard : Bool) (processors : ℕ) (setups : List TaskSetup) (lines : List LineSetup) (semaphores : List SemaphoreConfig) (flags : List FlagConfig)
     (queues : List QueueConfig) (spin_locks : List SpinLockConfig) →
-    WaitsAreKept (made_kernel processors setups lines semaphores flags queues spin_locks)
-made-keeps processors setups lines semaphores flags queues spin_locks =
-    kept (made_kernel processors setups lines semaphores flags queues spin_locks) (made-stands processors setups lines semaphores flags queues spin_locks)
-    (made-each processors setups lines semaphores flags queues spin_locks)
+    WaitsAreKept (made_kernel standard processors setups lines semaphores flags queues spin_locks)
+made-keeps standard processors setups lines semaphores flags queues spin_locks =
+    kept (made_kernel standard processors setups lines semaphores flags queues spin_locks) (made-stands standard processors setups lines semaphores flags queues spin_locks)
+    (made-each standard processors setups lines semaphores flags queues spin_locks)
 
 pub activated-keeps : (k : KernelState) (id : ℕ) (request : Request) → WaitsAreKept k → WaitsAreKept (with_tasks k (activated k.tasks id request))
 activated-keeps k id request was =

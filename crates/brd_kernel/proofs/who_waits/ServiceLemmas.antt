@@ -69,7 +69,7 @@ stands-law k cpu caller was = record {
       (λ small. enters-none caller (callers_priority k caller) reason.Sleep (standing_for k) sleep-none was.apart) was;
   delays = λ due may. wait-keeps k caller reason.Delay (Some due) k refl
       (λ small. enters-none caller (callers_priority k caller) reason.Delay (standing_for k) delay-none was.apart) was;
-  rotates = λ priority p there. tasks-keep k (turned k.tasks cpu priority) (turned-before k.tasks cpu priority) was;
+  rotates = λ on priority p there. tasks-keep k (turned k.tasks on priority) (turned-before k.tasks on priority) was;
   marks = λ p q there same how. processor-keeps k cpu q was;
   returns = λ p there. parts-keep k (handler_ended k cpu p) refl refl refl refl refl was;
   signals = λ id (s : Semaphore) there. returned-keeps k id s s.waiters there refl was;
@@ -85,6 +85,7 @@ stands-law k cpu caller was = record {
       (enters-object k caller id lacks was) was;
   writes = λ word. parts-keep k (record k { console = k.console ++ word % 2 ^ 8 ∷ [] }) refl refl refl refl refl was;
   ends_all = parts-keep k (record k { off = true }) refl refl refl refl refl was;
+  sets_clock = λ clock. parts-keep k (record k { clock = clock }) refl refl refl refl refl was;
 }
 
 pub serve-keeps : (k : KernelState) (cpu : ℕ) (c : Call) → WaitsAreKept k → WaitsAreKept (serve_of k cpu c).kernel

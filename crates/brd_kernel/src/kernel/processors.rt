@@ -111,7 +111,7 @@ impl Kernel {
     }
 
     /// The processor from which a call comes.
-    fn own_processor(&self, cpu: u8) -> Result<Processor, Ercd>
+    pub(super) fn own_processor(&self, cpu: u8) -> Result<Processor, Ercd>
         ensures is { result ≡ or_fault Noexs (processor_at self.now cpu) }
         ensures known { IfOk result (λ p. is_task_or_none (are_there self.now.tasks) p.running ≡ true) }
         ensures within { IfOk result (λ _. IsProcessor cpu) }
@@ -124,7 +124,7 @@ impl Kernel {
 
     /// The number of a processor that the board has, or E_PAR.
     #[tactic(auto, unfolding(crate::specs::Services::is_no_processor))]
-    fn processor_in_range(&self, cpu: u32) -> Result<u8, Ercd>
+    pub(super) fn processor_in_range(&self, cpu: u32) -> Result<u8, Ercd>
         ensures within { IfOk result IsProcessor }
         ensures ok { IfOk result (λ n. (n ≡ cpu) × (is_no_processor self.now cpu ≡ false)) }
         ensures err { IfErr result (λ code. (code ≡ Par) × (is_no_processor self.now cpu ≡ true)) }
@@ -149,7 +149,7 @@ impl Kernel {
 
 /// The priority that a call names, where 0 is the caller's.
 #[tactic(auto, unfolding(crate::specs::Services::priority_or_callers))]
-fn priority_or_callers(priority: u8, callers: u8) -> u8
+pub(super) fn priority_or_callers(priority: u8, callers: u8) -> u8
     ensures { result ≡ priority_or_callers priority callers }
 {
     if priority == 0 { callers } else { priority }

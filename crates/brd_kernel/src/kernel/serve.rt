@@ -99,6 +99,15 @@ impl Kernel {
             Call::LocSpn(id) => self.loc_spn(cpu, id),
             Call::TrySpn(id) => self.try_spn(cpu, id),
             Call::UnlSpn(id) => self.unl_spn(cpu, id),
+            Call::GetTim => Ok(Reply::Answer(0, Some(self.system_time()))),
+            Call::SetTim(time) => self.set_tim(time),
+            Call::Sns(what) => self.sns(cpu, what),
+            Call::MgetTid(on) => self.mget_tid(on),
+            Call::MrotRdq(priority, on) => self.mrot_rdq(caller, priority, on),
+            Call::RefTsk(id, word) => self.ref_tsk(named(id, caller), word),
+            Call::RefSem(id, word) => self.ref_sem(id, word),
+            Call::RefFlg(id, word) => self.ref_flg(id, word),
+            Call::RefDtq(id, word) => self.ref_dtq(id, word),
         }
     }
 
