@@ -13,7 +13,7 @@ use Rattle.brd_sysgate.specs.Gate.{served_call, changed_in, with_changed_context
 
 -- a context goes on, and processors and spin locks stay
 same-advanced : (k : KernelState) (cpu : ℕ) (who : Option Executor) → Same (changed_in advanced k cpu who) k
-same-advanced k cpu None = record { processors = refl; spin_locks = refl }
+same-advanced k cpu None = record { processors = refl; spin_locks = refl; standard = refl }
 same-advanced k cpu (Some who) = same-context k cpu who (advanced (context_of k cpu who))
 
 pub told-again : (k : KernelState) (cpu : ℕ) (asked : Result Call Ercd) →

@@ -1,1 +1,2 @@
 pub mod AgainLemmas
+pub mod TableLemmas

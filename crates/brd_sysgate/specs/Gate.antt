@@ -1,11 +1,12 @@
 -- The gate of service calls: the call that a context asks for, by its number in $v0 and its arguments in $a0 to $a3.
-use Rattle.std.specs.Prelude.{ℕ, ◌==◌, nat_lt, Bool, true, false, not, ◌&&◌, ◌||◌, if◌then◌else◌, List, [], ◌∷◌, find, codes}
+use Rattle.std.specs.Prelude.{ℕ, ◌==◌, nat_lt, Bool, true, false, not, ◌&&◌, ◌||◌, if◌then◌else◌, List, [], ◌∷◌, ◌++◌, find, codes}
 use Rattle.std.specs.Prelude.{slice_index, is_some, Option, None, Some, Result, Ok, Err}
 use Rattle.std.specs.Option.{option_map}
 use Rattle.brd_exec.specs.State.{State, read, advanced}
 use Rattle.brd_tasks.specs.Tasks.{answered}
 use Rattle.brd_kernel.specs.declared.call.Call.{Call}
 use Rattle.brd_kernel.specs.declared.call.Call.TheVariants as call
+use Rattle.brd_kernel.specs.declared.call.Sensed.TheVariants as sense
 use Rattle.brd_kernel.specs.declared.call.Ercd.{Ercd}
 use Rattle.brd_kernel.specs.declared.call.Ercd.TheVariants.{Rsfn, Ctx}
 use Rattle.brd_kernel.specs.declared.call.Reply.{Reply}
@@ -17,8 +18,9 @@ use Rattle.brd_kernel.specs.Waits.{forever}
 use Rattle.brd_kernel.specs.Row.{Served}
 use Rattle.brd_kernel.specs.Services.{caller_on, serve_of, comes_again}
 use Rattle.brd_kernel.specs.Kernel.{KernelState, processor_at, executor_on, context_of, with_context_of, context_on}
+use Rattle.brd_sysgate.specs.declared.gate.Agent.{Agent}
+use Rattle.brd_sysgate.specs.declared.gate.Agent.TheVariants.{Task, Handler}
 use Rattle.brd_sysgate.specs.declared.gate.Caller.{Caller}
-use Rattle.brd_sysgate.specs.declared.gate.Caller.TheVariants.{Task, Handler}
 use Rattle.brd_sysgate.specs.declared.place.Place.{Place}
 use Rattle.brd_sysgate.specs.declared.place.Place.TheVariants as place
 use Rattle.brd_sysgate.specs.declared.place.Asked.{Asked}
@@ -54,9 +56,9 @@ a3 a = slice_index a 3
 abbrev pub poll : ℕ
 poll = 0
 
--- the calls in the order of their numbers; every other number is E_RSFN
-abbrev pub table : List Service
-table =
+-- the calls of every board in the order of their numbers
+abbrev pub plain_table : List Service
+plain_table =
     service 1 (codes "act_tsk") 1 place.Task (λ a. call.ActTsk (a0 a))
     ∷ service 2 (codes "can_act") 1 place.Task (λ a. call.CanAct (a0 a))
     ∷ service 3 (codes "ext_tsk") 0 place.LockedTask (λ a. call.ExtTsk)
@@ -114,48 +116,90 @@ table =
     ∷ service 62 (codes "unl_spn") 1 place.LockedTask (λ a. call.UnlSpn (a0 a))
     ∷ []
 
+-- those of the profile PROFILE(STANDARD), with numbers from 64 on
+abbrev pub profile_table : List Service
+profile_table =
+    service 64 (codes "get_tim") 0 place.Task (λ a. call.GetTim)
+    ∷ service 65 (codes "set_tim") 1 place.Task (λ a. call.SetTim (a0 a))
+    ∷ service 66 (codes "sns_ctx") 0 place.Anywhere (λ a. call.Sns sense.Context)
+    ∷ service 67 (codes "sns_loc") 0 place.Anywhere (λ a. call.Sns sense.Locked)
+    ∷ service 68 (codes "sns_dsp") 0 place.Anywhere (λ a. call.Sns sense.Disabled)
+    ∷ service 69 (codes "sns_dpn") 0 place.Anywhere (λ a. call.Sns sense.Pending)
+    ∷ service 70 (codes "frsm_tsk") 1 place.Task (λ a. call.RsmTsk (a0 a))
+    ∷ service 71 (codes "mget_tid") 1 place.Task (λ a. call.MgetTid (a0 a))
+    ∷ service 72 (codes "mrot_rdq") 2 place.Task (λ a. call.MrotRdq (a0 a) (a1 a))
+    ∷ service 73 (codes "ref_tsk") 2 place.Task (λ a. call.RefTsk (a0 a) (a1 a))
+    ∷ service 74 (codes "ref_sem") 2 place.Task (λ a. call.RefSem (a0 a) (a1 a))
+    ∷ service 75 (codes "ref_flg") 2 place.Task (λ a. call.RefFlg (a0 a) (a1 a))
+    ∷ service 76 (codes "ref_dtq") 2 place.Task (λ a. call.RefDtq (a0 a) (a1 a))
+    ∷ service 112 (codes "iget_pid") 0 place.Handler (λ a. call.GetPid)
+    ∷ []
+
+-- all calls
+abbrev pub table : List Service
+table = plain_table ++ profile_table
+
+-- the calls of a board with the profile, or without; every other number is E_RSFN
+abbrev pub table_of : Bool → List Service
+table_of false = plain_table
+table_of true = table
+
 -- the number 0 or one's own
 unfoldable pub is_oneself : ℕ → ℕ → Bool
 is_oneself id named = named == 0 || named == id
 
--- whether a call of that place may come from a caller; `named` is its first argument
-abbrev pub may_call : Caller → Place → ℕ → Bool
+-- whether a call of that place may come from an agent; `named` is its first argument
+abbrev pub may_call : Agent → Place → ℕ → Bool
 may_call (Task id locked disabled holding) place.Task named = not locked
 may_call (Task id locked disabled holding) place.LockedTask named = true
 may_call (Task id locked disabled holding) place.NotHolding named = not holding
 may_call (Task id locked disabled holding) place.Waiting named = not locked && not disabled
 may_call (Task id locked disabled holding) place.OnTask named = not locked && not (disabled && is_oneself id named)
 may_call (Task id locked disabled holding) place.Handler named = false
+may_call (Task id locked disabled holding) place.Anywhere named = true
 may_call Handler place.Task named = false
 may_call Handler place.LockedTask named = false
 may_call Handler place.NotHolding named = false
 may_call Handler place.Waiting named = false
 may_call Handler place.OnTask named = false
 may_call Handler place.Handler named = true
+may_call Handler place.Anywhere named = true
 
--- the row of a number
+-- the row of a number in a table
+abbrev pub row_in : List Service → ℕ → Option Service
+row_in services number = find (λ s. s.number == number) services
+
+-- the name of a call there, and how many arguments it takes
+abbrev pub name_in : List Service → ℕ → Option (List ℕ × ℕ)
+name_in services number = option_map (λ s. (s.name, s.takes)) (row_in services number)
+
+-- from where it may come, and what it is
+abbrev pub asked_in : List Service → ℕ → List ℕ → Option Asked
+asked_in services number a = option_map (λ s. record { place = s.place; call = s.call a }) (row_in services number)
+
+-- The same of all calls.
+
 abbrev pub row_of : ℕ → Option Service
-row_of number = find (λ s. s.number == number) table
+row_of number = row_in table number
 
--- the name of a call, and how many arguments it takes
 abbrev pub name_of : ℕ → Option (List ℕ × ℕ)
-name_of number = option_map (λ s. (s.name, s.takes)) (row_of number)
+name_of number = name_in table number
 
--- from where a call may come, and what it is
 abbrev pub asked : ℕ → List ℕ → Option Asked
-asked number a = option_map (λ s. record { place = s.place; call = s.call a }) (row_of number)
+asked number a = asked_in table number a
 
 -- $a0 to $a3
 abbrev pub arguments_of : State → List ℕ
 arguments_of s = read s 4 ∷ read s 5 ∷ read s 6 ∷ read s 7 ∷ []
 
-abbrev pub allowed : Caller → ℕ → Option Asked → Result Call Ercd
-allowed caller named None = Err Rsfn
-allowed caller named (Some it) = if may_call caller it.place named then Ok it.call else Err Ctx
+abbrev pub allowed : Agent → ℕ → Option Asked → Result Call Ercd
+allowed agent named None = Err Rsfn
+allowed agent named (Some it) = if may_call agent it.place named then Ok it.call else Err Ctx
 
 -- E_RSFN before E_CTX, both before what the kernel tests
 abbrev pub read_of : State → Caller → Result Call Ercd
-read_of s caller = allowed caller (read s 4) (asked (read s 2) (arguments_of s))
+read_of s caller =
+    allowed caller.agent (read s 4) (asked_in (table_of caller.standard) (read s 2) (arguments_of s))
 
 -- what a reply writes
 abbrev pub written : State → Reply → State
@@ -169,19 +213,25 @@ abbrev pub is_above : ℕ → List Service → Bool
 is_above number [] = true
 is_above number (s ∷ services) = nat_lt number s.number && is_above s.number services
 
+-- all numbers are below this one
+
+abbrev pub are_below : ℕ → List Service → Bool
+are_below number [] = true
+are_below number (s ∷ services) = nat_lt s.number number && are_below number services
+
 -- The whole of a service call.
 
-abbrev pub caller_by : ℕ → Processor → Option ℕ → Caller
-caller_by id p None = Task id p.locked p.disabled (is_some p.spin)
-caller_by id p (Some line) = Handler
+abbrev pub agent_by : ℕ → Processor → Option ℕ → Agent
+agent_by id p None = Task id p.locked p.disabled (is_some p.spin)
+agent_by id p (Some line) = Handler
 
--- who makes a call from a processor (where the board has none of that number no call comes, and any caller will do)
-abbrev pub caller_in : ℕ → Option Processor → Caller
-caller_in id None = Handler
-caller_in id (Some p) = caller_by id p p.handling
+-- who makes a call from a processor (where the board has none of that number no call comes, and any agent will do)
+abbrev pub agent_in : ℕ → Option Processor → Agent
+agent_in id None = Handler
+agent_in id (Some p) = agent_by id p p.handling
 
 abbrev pub caller_of : KernelState → ℕ → Caller
-caller_of k cpu = caller_in (caller_on k cpu) (processor_at k cpu)
+caller_of k cpu = record { agent = agent_in (caller_on k cpu) (processor_at k cpu); standard = k.standard }
 
 abbrev pub served_call : KernelState → ℕ → Result Call Ercd → Served
 served_call k cpu (Ok call) = serve_of k cpu call

@@ -1,12 +1,24 @@
 //! Reading a service call from the registers, and writing its answer to them.
 
 ghost use Rattle.std.specs.Prelude.{◌≡◌, option_map};
-ghost use Rattle.brd_sysgate.specs.Gate.{asked, name_of, may_call, is_oneself, read_of, written};
+ghost use Rattle.brd_sysgate.specs.Gate.{
+  asked,
+  asked_in,
+  name_of,
+  name_in,
+  plain_table,
+  profile_table,
+  table_of,
+  may_call,
+  is_oneself,
+  read_of,
+  written,
+};
 
 use crate::place::{Asked, Place, Service};
 use brd_exec::Context;
 use brd_isa::Register;
-use brd_kernel::{Call, Ercd, Reply};
+use brd_kernel::{Call, Ercd, Reply, Sensed};
 use brd_tasks::{TaskId, answer};
 
 /// The timeout of a call that waits without an end (TMO_FEVR, -1).
@@ -15,9 +27,18 @@ const FOREVER: u32 = 0xffff_ffff;
 /// The timeout of a call that only polls (TMO_POL).
 const POLL: u32 = 0;
 
-/// Who makes a service call.
+/// Who makes a service call, and of which board.
 #[derive(Clone, Copy, PartialEq, Eq)]
-pub enum Caller {
+pub struct Caller {
+    /// Who executes there.
+    pub agent: Agent,
+    /// Whether the board's kernel has the profile.
+    pub standard: bool,
+}
+
+/// A task or a handler that makes a service call.
+#[derive(Clone, Copy, PartialEq, Eq)]
+pub enum Agent {
     /// The running task.
     Task {
         /// Its number.
@@ -44,10 +65,11 @@ pub fn read(context: &Context, caller: Caller) -> Result<Call, Ercd>
         context.read(Register::low(6)),
         context.read(Register::low(7)),
     ];
-    let Some(service) = service(context.read(Register::low(2)), arguments) else {
+    let Some(service) = service_there(caller.standard, context.read(Register::low(2)), arguments)
+    else {
         return Err(Ercd::Rsfn);
     };
-    if !may_call(caller, service.asked.place, arguments[0]) {
+    if !may_call(caller.agent, service.asked.place, arguments[0]) {
         return Err(Ercd::Ctx);
     }
     Ok(service.asked.call)
@@ -62,10 +84,32 @@ pub fn write(context: &mut Context, reply: Reply)
     }
 }
 
-/// The service of a number, as it is asked for with these arguments.
+/// The service of a number, with the profile or without.
+fn service_there(standard: bool, number: u32, arguments: [u32; 4]) -> Option<Service>
+    ensures { option_map (λ s. s.asked) result ≡ asked_in (table_of standard) number arguments }
+{
+    if standard {
+        return service(number, arguments);
+    }
+    plain_service(number, arguments)
+}
+
+/// The service of a number, also one of the profile, as it is asked for with these arguments.
+#[tactic(auto, using(crate::proofs::TableLemmas::asked_more, crate::proofs::TableLemmas::named_more))]
 pub fn service(number: u32, arguments: [u32; 4]) -> Option<Service>
     ensures is { option_map (λ s. s.asked) result ≡ asked number arguments }
     ensures named { option_map (λ s. (s.name.now, s.takes)) result ≡ name_of number }
+{
+    match plain_service(number, arguments) {
+        Some(service) => Some(service),
+        None => profile_service(number, arguments),
+    }
+}
+
+/// The service of a number that every board has.
+fn plain_service(number: u32, arguments: [u32; 4]) -> Option<Service>
+    ensures is { option_map (λ s. s.asked) result ≡ asked_in plain_table number arguments }
+    ensures named { option_map (λ s. (s.name.now, s.takes)) result ≡ name_in plain_table number }
 {
     let [a0, a1, a2, a3] = arguments;
     let (name, takes, place, call): (&'static [u8], u8, Place, Call) = match number {
@@ -145,21 +189,48 @@ pub fn service(number: u32, arguments: [u32; 4]) -> Option<Service>
     Some(Service { name, takes, asked })
 }
 
-/// Whether a call of that place may come from a caller. `named` is the call's first argument.
-#[tactic(auto, unfolding(crate::specs::Gate::is_oneself))]
-fn may_call(caller: Caller, place: Place, named: u32) -> bool
-    ensures { result ≡ may_call caller place named }
+/// The service of a number that a board has with the profile alone.
+fn profile_service(number: u32, arguments: [u32; 4]) -> Option<Service>
+    ensures is { option_map (λ s. s.asked) result ≡ asked_in profile_table number arguments }
+    ensures named { option_map (λ s. (s.name.now, s.takes)) result ≡ name_in profile_table number }
 {
-    match caller {
-        Caller::Handler => place == Place::Handler,
-        Caller::Task {
+    let [a0, a1, _, _] = arguments;
+    let (name, takes, place, call): (&'static [u8], u8, Place, Call) = match number {
+        64 => (b"get_tim", 0, Place::Task, Call::GetTim),
+        65 => (b"set_tim", 1, Place::Task, Call::SetTim(a0)),
+        66 => (b"sns_ctx", 0, Place::Anywhere, Call::Sns(Sensed::Context)),
+        67 => (b"sns_loc", 0, Place::Anywhere, Call::Sns(Sensed::Locked)),
+        68 => (b"sns_dsp", 0, Place::Anywhere, Call::Sns(Sensed::Disabled)),
+        69 => (b"sns_dpn", 0, Place::Anywhere, Call::Sns(Sensed::Pending)),
+        70 => (b"frsm_tsk", 1, Place::Task, Call::RsmTsk(a0)),
+        71 => (b"mget_tid", 1, Place::Task, Call::MgetTid(a0)),
+        72 => (b"mrot_rdq", 2, Place::Task, Call::MrotRdq(a0, a1)),
+        73 => (b"ref_tsk", 2, Place::Task, Call::RefTsk(a0, a1)),
+        74 => (b"ref_sem", 2, Place::Task, Call::RefSem(a0, a1)),
+        75 => (b"ref_flg", 2, Place::Task, Call::RefFlg(a0, a1)),
+        76 => (b"ref_dtq", 2, Place::Task, Call::RefDtq(a0, a1)),
+        112 => (b"iget_pid", 0, Place::Handler, Call::GetPid),
+        _ => return None,
+    };
+    let asked = Asked { place, call };
+    Some(Service { name, takes, asked })
+}
+
+/// Whether a call of that place may come from an agent. `named` is the call's first argument.
+#[tactic(auto, unfolding(crate::specs::Gate::is_oneself))]
+fn may_call(agent: Agent, place: Place, named: u32) -> bool
+    ensures { result ≡ may_call agent place named }
+{
+    match agent {
+        Agent::Handler => place == Place::Handler || place == Place::Anywhere,
+        Agent::Task {
             id,
             locked,
             disabled,
             holding,
         } => match place {
             Place::Task => !locked,
-            Place::LockedTask => true,
+            Place::LockedTask | Place::Anywhere => true,
             Place::NotHolding => !holding,
             Place::Waiting => !locked && !disabled,
             Place::OnTask => !locked && !(disabled && is_oneself(id, named)),

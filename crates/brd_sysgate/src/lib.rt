@@ -9,6 +9,6 @@ pub mod laws;
 mod place;
 mod syscall;
 
-pub use gate::{Caller, read, service, write};
+pub use gate::{Agent, Caller, read, service, write};
 pub use place::{Asked, Place, Service};
 pub use syscall::call;

@@ -17,6 +17,8 @@ pub enum Place {
     OnTask,
     /// From a handler.
     Handler,
+    /// From every task and every handler.
+    Anywhere,
 }
 
 /// A service call, and from where it may come.

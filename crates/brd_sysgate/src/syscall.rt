@@ -2,9 +2,19 @@
 
 ghost use Rattle.std.specs.Prelude.{◌≡◌, ◌<◌};
 ghost use Rattle.brd_exec.specs.State.{advanced};
-ghost use Rattle.brd_sysgate.specs.Gate.{caller_of, with_changed_context, written, served_call, is_again, called};
+ghost use Rattle.brd_kernel.specs.Kernel.{processor_at};
+ghost use Rattle.brd_kernel.specs.Services.{caller_on};
+ghost use Rattle.brd_sysgate.specs.Gate.{
+  agent_in,
+  caller_of,
+  with_changed_context,
+  written,
+  served_call,
+  is_again,
+  called,
+};
 
-use crate::gate::{Caller, read, write};
+use crate::gate::{Agent, Caller, read, write};
 use brd_kernel::{Call, Ercd, Kernel, Reply};
 
 /// A SYSCALL on a processor: its context goes on as after an ordinary instruction, the call is served, and its reply is
@@ -26,17 +36,27 @@ pub fn call(kernel: &mut Kernel, cpu: u8)
     answer(kernel, cpu, reply);
 }
 
-/// Who executes on a processor.
+/// Who makes a call from a processor.
 fn caller(kernel: &Kernel, cpu: u8) -> Caller
     ensures { result ≡ caller_of kernel.now cpu }
 {
+    Caller {
+        agent: agent(kernel, cpu),
+        standard: kernel.is_standard(),
+    }
+}
+
+/// Who executes on a processor.
+fn agent(kernel: &Kernel, cpu: u8) -> Agent
+    ensures { result ≡ agent_in (caller_on kernel.now cpu) (processor_at kernel.now cpu) }
+{
     let Some(processor) = kernel.processor(cpu) else {
-        return Caller::Handler;
+        return Agent::Handler;
     };
     if processor.handling.is_some() {
-        return Caller::Handler;
+        return Agent::Handler;
     }
-    Caller::Task {
+    Agent::Task {
         id: kernel.caller(cpu),
         locked: processor.locked,
         disabled: processor.disabled,
