@@ -14,7 +14,7 @@ use Rattle.brd_kernel.specs.Row.{Served}
 use Rattle.brd_kernel.specs.Services.{caller_on, serve_of}
 use Rattle.brd_kernel.proofs.who_runs.RunningCallLemmas.{MayServe}
 use Rattle.brd_kernel.proofs.SameLemmas.{Same, same-context}
-use Rattle.brd_sysgate.specs.Gate.{changed_in, with_changed_context, served_call, is_again, called_in, called, caller_in, caller_of, read_of, written}
+use Rattle.brd_sysgate.specs.Gate.{changed_in, with_changed_context, served_call, is_again, called_in, called, agent_in, caller_of, read_of, written}
 use Rattle.brd_board.proofs.GateLemmas.{MayBe, read-may}
 
 -- a processor on which somebody executes
@@ -56,7 +56,7 @@ changed-leaves P change k cpu (Some who) leaves was = leaves who (change (contex
 
 changed-same : (change : State → State) (k : KernelState) (cpu : ℕ) (who : Option Executor) →
     Same (changed_in change k cpu who) k
-changed-same change k cpu None = record { processors = refl; spin_locks = refl }
+changed-same change k cpu None = record { processors = refl; spin_locks = refl; standard = refl }
 changed-same change k cpu (Some who) = same-context k cpu who (change (context_of k cpu who))
 
 served-leaves : {P Q : KernelState → Type 0} (k now : KernelState) (cpu : ℕ) (p : Processor)
@@ -80,9 +80,9 @@ read-leaves {P = P} {Q = Q} k cpu s p law is was =
     let asked : Result Call Ercd = read_of s (caller_of k cpu) in
     let may : MayBe p (caller_on on cpu) asked =
     subst (λ found. MayBe p (unwrap_or (running_in found) 0) asked) (sym there)
-    (subst (λ found. MayBe p (unwrap_or p.running 0) (read_of s (caller_in (unwrap_or (running_in found) 0) found)))
+    (subst (λ found. MayBe p (unwrap_or p.running 0) (read_of s (record { agent = agent_in (unwrap_or (running_in found) 0) found; standard = k.standard })))
     (sym is.there)
-    (read-may p s is.on is.by)) in
+    (read-may k.standard p s is.on is.by)) in
     let done : Served = served_call on cpu asked in
     let left : Q done.kernel =
     served-leaves k on cpu p asked law same there may

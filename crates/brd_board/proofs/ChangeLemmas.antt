@@ -96,7 +96,7 @@ keeps-faulted_task k cpu p (Some id) is =
     let noted-one : KernelState = with_tasks k (noted without_activation k.tasks id) in
     let out : KernelState = ended_in noted-one id in
     let only : Same out noted-one = same-ended noted-one id in
-    let same : Same out k = record { processors = only.processors; spin_locks = only.spin_locks } in
+    let same : Same out k = record { processors = only.processors; spin_locks = only.spin_locks; standard = only.standard } in
     λ at. runners-set out.processors cpu at p (unmarked p) (ap (λ ps. slice_index_or ps cpu None) same.processors ∙ is) refl ∙ runs out k same at
 
 keeps-runners-if : (test : Bool) (old one other : KernelState) → KeepsRunners one old → KeepsRunners other old → KeepsRunners (if test then one else other) old

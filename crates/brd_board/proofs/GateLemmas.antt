@@ -13,11 +13,12 @@ use Rattle.brd_kernel.specs.Services.{named}
 use Rattle.brd_kernel.proofs.who_runs.RunningCallLemmas.{IsFree, MayServe, IsTaskOf, known_of, none-held}
 use Rattle.brd_kernel.proofs.ThereLemmas.{first-of, second-of}
 use Rattle.brd_kernel.proofs.WalkLemmas.{CallerStop, GoesOn, Locks, Unlocks, MayWait, Waits, Names, Ends, stop_of, MayStop}
+use Rattle.brd_sysgate.specs.declared.gate.Agent.{Agent}
+use Rattle.brd_sysgate.specs.declared.gate.Agent.TheVariants.{Task, Handler}
 use Rattle.brd_sysgate.specs.declared.gate.Caller.{Caller}
-use Rattle.brd_sysgate.specs.declared.gate.Caller.TheVariants.{Task, Handler}
 use Rattle.brd_sysgate.specs.declared.place.Place.{Place}
 use Rattle.brd_sysgate.specs.declared.place.Place.TheVariants as place
-use Rattle.brd_sysgate.specs.Gate.{Service, table, a0, is_oneself, may_call, arguments_of, allowed, read_of, caller_by}
+use Rattle.brd_sysgate.specs.Gate.{Service, table_of, a0, is_oneself, may_call, arguments_of, allowed, read_of, agent_by}
 
 -- Of each row of the table: from where a call may come by what it may do to its caller; and one that may be about its
 -- caller names it by its first argument. Both are computed over the whole table.
@@ -45,19 +46,21 @@ abbrev all_fit : List ℕ → List Service → Bool
 all_fit a [] = true
 all_fit a (s ∷ services) = fits (stop_of (s.call a)) s.place && all_fit a services
 
-table-fits : (a : List ℕ) → all_fit a table ≡ true
-table-fits a = refl
+table-fits : (standard : Bool) (a : List ℕ) → all_fit a (table_of standard) ≡ true
+table-fits true a = refl
+table-fits false a = refl
 
 abbrev names : List ℕ → List Service → List ℕ
 names a services = map (λ s. named_by (stop_of (s.call a)) (a0 a)) services
 
-table-names : (a : List ℕ) → names a table ≡ map (λ s. a0 a) table
-table-names a = refl
+table-names : (standard : Bool) (a : List ℕ) → names a (table_of standard) ≡ map (λ s. a0 a) (table_of standard)
+table-names true a = refl
+table-names false a = refl
 
 -- so a call that comes from where it may, may be served
-abbrev PlacesMay : Processor → ℕ → Caller → ℕ → Type 0
-PlacesMay p id caller first =
-    (stop : CallerStop) (from : Place) → fits stop from ≡ true → named_by stop first ≡ first → may_call caller from first ≡ true →
+abbrev PlacesMay : Processor → ℕ → Agent → ℕ → Type 0
+PlacesMay p id agent first =
+    (stop : CallerStop) (from : Place) → fits stop from ≡ true → named_by stop first ≡ first → may_call agent from first ≡ true →
     MayStop (known_of p id) id stop
 
 abbrev pub MayBe : Processor → ℕ → Result Call Ercd → Type 0
@@ -69,23 +72,23 @@ passed : (ok : Bool) (p : Processor) (id : ℕ) (c : Call) (code : Ercd) → (ok
 passed true p id c code may = may refl
 passed false p id c code may = tt
 
-found-by : (here : Bool) (p : Processor) (id number : ℕ) (caller : Caller) (a : List ℕ) (s : Service) (services : List Service) →
-    (may_call caller s.place (a0 a) ≡ true → MayServe p id (s.call a)) →
-    MayBe p id (allowed caller (a0 a) (option_map (λ x. record { place = x.place; call = x.call a }) (find (λ x. x.number == number) services))) →
-    MayBe p id (allowed caller (a0 a) (option_map (λ x. record { place = x.place; call = x.call a })
+found-by : (here : Bool) (p : Processor) (id number : ℕ) (agent : Agent) (a : List ℕ) (s : Service) (services : List Service) →
+    (may_call agent s.place (a0 a) ≡ true → MayServe p id (s.call a)) →
+    MayBe p id (allowed agent (a0 a) (option_map (λ x. record { place = x.place; call = x.call a }) (find (λ x. x.number == number) services))) →
+    MayBe p id (allowed agent (a0 a) (option_map (λ x. record { place = x.place; call = x.call a })
     (if here then Some s else find (λ x. x.number == number) services)))
-found-by true p id number caller a s services first rest = passed (may_call caller s.place (a0 a)) p id (s.call a) _ first
-found-by false p id number caller a s services first rest = rest
+found-by true p id number agent a s services first rest = passed (may_call agent s.place (a0 a)) p id (s.call a) _ first
+found-by false p id number agent a s services first rest = rest
 
-found : (p : Processor) (id number : ℕ) (caller : Caller) (a : List ℕ) (services : List Service) → PlacesMay p id caller (a0 a) →
+found : (p : Processor) (id number : ℕ) (agent : Agent) (a : List ℕ) (services : List Service) → PlacesMay p id agent (a0 a) →
     all_fit a services ≡ true → names a services ≡ map (λ s. a0 a) services →
-    MayBe p id (allowed caller (a0 a) (option_map (λ x. record { place = x.place; call = x.call a }) (find (λ x. x.number == number) services)))
-found p id number caller a [] may fit name = tt
-found p id number caller a (s ∷ services) may fit name =
+    MayBe p id (allowed agent (a0 a) (option_map (λ x. record { place = x.place; call = x.call a }) (find (λ x. x.number == number) services)))
+found p id number agent a [] may fit name = tt
+found p id number agent a (s ∷ services) may fit name =
     let stop : CallerStop = stop_of (s.call a) in
-    found-by (s.number == number) p id number caller a s services
+    found-by (s.number == number) p id number agent a s services
     (may stop s.place (first-of (fits stop s.place) (all_fit a services) fit) (ap (λ l. slice_index_or l 0 (a0 a)) name))
-    (found p id number caller a services may (second-of (fits stop s.place) (all_fit a services) fit) (ap (drop 1) name))
+    (found p id number agent a services may (second-of (fits stop s.place) (all_fit a services) fit) (ap (drop 1) name))
 
 -- A handler only polls.
 
@@ -176,14 +179,14 @@ running-task (Some id) is = refl
 
 may-by : (handling : Option ℕ) (p : Processor) (first : ℕ) → p.handling ≡ handling → p.stopped ≡ false →
     is_some (executor_by p.running handling) ≡ true →
-    PlacesMay p (unwrap_or p.running 0) (caller_by (unwrap_or p.running 0) p handling) first
+    PlacesMay p (unwrap_or p.running 0) (agent_by (unwrap_or p.running 0) p handling) first
 may-by (Some line) p first is stopped executes = handler-may p (unwrap_or p.running 0) first
 may-by None p first is stopped executes =
     task-may p (unwrap_or p.running 0) first (running-task p.running executes) (ap is_some is) stopped
 
 -- the call that is read from a context of a processor on which somebody executes
-pub read-may : (p : Processor) (s : State) → p.stopped ≡ false → is_some (executor_by p.running p.handling) ≡ true →
-    MayBe p (unwrap_or p.running 0) (read_of s (caller_by (unwrap_or p.running 0) p p.handling))
-read-may p s stopped executes =
-    found p (unwrap_or p.running 0) (read s 2) (caller_by (unwrap_or p.running 0) p p.handling) (arguments_of s) table
-    (may-by p.handling p (a0 (arguments_of s)) refl stopped executes) (table-fits (arguments_of s)) (table-names (arguments_of s))
+pub read-may : (standard : Bool) (p : Processor) (s : State) → p.stopped ≡ false → is_some (executor_by p.running p.handling) ≡ true →
+    MayBe p (unwrap_or p.running 0) (read_of s (record { agent = agent_by (unwrap_or p.running 0) p p.handling; standard = standard }))
+read-may standard p s stopped executes =
+    found p (unwrap_or p.running 0) (read s 2) (agent_by (unwrap_or p.running 0) p p.handling) (arguments_of s) (table_of standard)
+    (may-by p.handling p (a0 (arguments_of s)) refl stopped executes) (table-fits standard (arguments_of s)) (table-names standard (arguments_of s))

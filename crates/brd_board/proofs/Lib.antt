@@ -16,4 +16,5 @@ pub mod FormLemmas
 pub mod StoringLemmas
 pub mod BatchLemmas
 pub mod SpinLemmas
+pub mod ProfileLemmas
 mod LeaseLemmas

@@ -129,6 +129,8 @@ record Stays (k new : KernelState) : Type 0 where
   spin_locks : new.spin_locks ≡ k.spin_locks
   lines : new.lines ≡ k.lines
   time : new.time ≡ k.time
+  clock : new.clock ≡ k.clock
+  standard : new.standard ≡ k.standard
   console : new.console ≡ k.console
   off : new.off ≡ k.off
 
@@ -142,6 +144,8 @@ stays k cpu executor.Handler s = record {
   spin_locks = refl;
   lines = refl;
   time = refl;
+  clock = refl;
+  standard = refl;
   console = refl;
   off = refl;
 }
@@ -154,6 +158,8 @@ stays k cpu (executor.Task id) s = record {
   spin_locks = refl;
   lines = refl;
   time = refl;
+  clock = refl;
+  standard = refl;
   console = refl;
   off = refl;
 }
@@ -187,6 +193,8 @@ own-instruction b cpu who left was executes =
       spin_locks = rest.spin_locks;
       lines = rest.lines;
       time = rest.time;
+      clock = rest.clock;
+      standard = rest.standard;
       console = rest.console;
       off = rest.off;
     }

@@ -98,7 +98,11 @@ calls-pass k cpu was = record {
   quiet = λ now same. same-passes (λ at. cpu == at) k now was same;
   goes_on = λ now who s same.
       let on : Same (with_context_of now cpu who s) now = same-context now cpu who s in
-      record { processors = on.processors ∙ same.processors; spin_locks = on.spin_locks ∙ same.spin_locks };
+      record {
+        processors = on.processors ∙ same.processors;
+        spin_locks = on.spin_locks ∙ same.spin_locks;
+        standard = on.standard ∙ same.standard;
+      };
   replies = λ now who s left. passes-same (λ at. cpu == at) k now (with_context_of now cpu who s) left
       (same-context now cpu who s);
   serves = λ now p c same there may is.
@@ -108,7 +112,7 @@ calls-pass k cpu was = record {
 }
 
 called-passes : (k : KernelState) (cpu : ℕ) → IsLocking k → Passes (λ at. cpu == at) k (called k cpu)
-called-passes k cpu was = called-leaves k cpu (calls-pass k cpu was) (record { processors = refl; spin_locks = refl })
+called-passes k cpu was = called-leaves k cpu (calls-pass k cpu was) (record { processors = refl; spin_locks = refl; standard = refl })
 
 -- An instruction.
 
@@ -133,7 +137,7 @@ done-passes b c cpu address (Exception code epc bd) was same =
     (wrote-passes c.kernel (ended_by_fault c.kernel cpu) cpu on (fault-wrote c.kernel cpu on)))
 
 quiet : (moves : ℕ → Bool) (k : KernelState) → IsLocking k → Passes moves k k
-quiet moves k was = same-passes moves k k was (record { processors = refl; spin_locks = refl })
+quiet moves k was = same-passes moves k k was (record { processors = refl; spin_locks = refl; standard = refl })
 
 executes-passes : (b : BoardState) (cpu : ℕ) (done : Option Executed) → executed b.kernel cpu b.memory b.links ≡ done →
     IsLocking b.kernel →
@@ -197,11 +201,11 @@ booted-locking : (config : Configuration) (s : List TaskSetup) (l : List LineSet
     IsLocking (booted_kernel s l config)
 booted-locking config s l =
     let first : KernelState =
-    made_kernel config.processors s l config.semaphores config.flags config.queues config.spin_locks in
+    made_kernel config.standard config.processors s l config.semaphores config.flags config.queues config.spin_locks in
     dispatch-locking (with_tasks first (all_started first.tasks config.tasks))
     (all-started-kept {P = IsLocking}
     (λ k id was. locking-same k (with_tasks k (activated k.tasks id Assigned))
-    (record { processors = refl; spin_locks = refl }) was) first config.tasks
+    (record { processors = refl; spin_locks = refl; standard = refl }) was) first config.tasks
     (made-locking first config.processors refl))
 
 boot-locking : (image : Image) (config : Configuration) (b : BoardState) (events : List Event) →

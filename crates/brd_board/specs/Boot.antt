@@ -1,6 +1,6 @@
 -- Boot: the board that an image and a configuration make.
-use Rattle.std.specs.Prelude.{ℕ, ◌+◌, ◌-◌, ◌*◌, ◌^◌, nat_le, Bool, true, ◌&&◌, if◌then◌else◌, List, [], ◌∷◌, ◌++◌}
-use Rattle.std.specs.Prelude.{length, map, flat_map, replicate, None, unwrap_or, Result, Ok, Err}
+use Rattle.std.specs.Prelude.{ℕ, ◌+◌, ◌-◌, ◌*◌, ◌^◌, nat_le, Bool, true, false, ◌&&◌, if◌then◌else◌, List, [], ◌∷◌}
+use Rattle.std.specs.Prelude.{◌++◌, length, map, flat_map, replicate, None, unwrap_or, Result, Ok, Err}
 use Rattle.std.specs.List.{range_with_len}
 use Rattle.brd_base.specs.Space.{base}
 use Rattle.brd_text.specs.Faults.{◌>>=◌}
@@ -44,7 +44,7 @@ loaded order size segments = if are_inside size segments then Ok (memory_of orde
 abbrev pub booted_kernel : List TaskSetup → List LineSetup → Configuration → KernelState
 booted_kernel setups lines config =
     let made =
-    made_kernel config.processors setups lines config.semaphores config.flags config.queues config.spin_locks in
+    made_kernel config.standard config.processors setups lines config.semaphores config.flags config.queues config.spin_locks in
     dispatched (with_tasks made (all_started made.tasks config.tasks))
 
 -- the board as boot leaves it: without links and faults
@@ -82,6 +82,7 @@ words_task = record {
 abbrev pub words_config : Configuration
 words_config =
     record {
+      standard = false;
       processors = 1;
       ram = words_ram;
       tasks = words_task ∷ [];

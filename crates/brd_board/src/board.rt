@@ -485,6 +485,7 @@ fn words_config(alloc: Global) -> Result<Config, NoMemory>
         stack: Stack::Automatic,
     })?;
     Ok(Config {
+        standard: false,
         processors: 1,
         ram: WORDS_RAM,
         tasks,
@@ -510,6 +511,7 @@ fn started(
 {
     let mut kernel = Kernel::new(
         alloc,
+        config.standard,
         config.processors,
         setups,
         lines,

@@ -1,22 +1,24 @@
 //! What is true of every board, whatever happened to it.
 
-ghost use Rattle.std.specs.Prelude.{◌≡◌, ◌≤◌, ℕ, true, false, List, replicate, None, Some, Ok};
+ghost use Rattle.std.specs.Prelude.{◌≡◌, ◌<◌, ◌≤◌, ℕ, true, false, List, replicate, None, Some, Ok, Err};
 ghost use Rattle.brd_link.specs.LinkSet.{linked_address};
 ghost use Rattle.brd_mem.specs.declared.image.Image.{Image as ImageOf};
 ghost use Rattle.brd_mem.specs.Memory.{size_of};
 ghost use Rattle.brd_mem.specs.Window.{window_start, window_at};
-ghost use Rattle.brd_exec.specs.State.{State};
+ghost use Rattle.brd_exec.specs.State.{State, read};
 ghost use Rattle.brd_exec.specs.Went.{Machine, went};
 ghost use Rattle.brd_exec.specs.Lent.{lent};
 ghost use Rattle.brd_config.specs.Configuration.{Configuration, IsConfiguration};
 ghost use Rattle.brd_queue.specs.Queue.{has, AreApart};
 ghost use Rattle.brd_tasks.specs.Tasks.{task_at, ready_on};
 ghost use Rattle.brd_kernel.specs.declared.processor.Executor.{Executor as ExecutorOf};
+ghost use Rattle.brd_kernel.specs.declared.call.Ercd.TheVariants.{Rsfn};
 ghost use Rattle.brd_kernel.specs.Kernel.{running_on, context_of, with_context_of};
 ghost use Rattle.brd_kernel.specs.Dispatch.{IsSettled, has_changed};
 ghost use Rattle.brd_kernel.specs.Waiting.{EachIsKept, WaitsAreKept};
 ghost use Rattle.brd_kernel.specs.Running.{is_ready_on, IsRunning, RunsOnce};
 ghost use Rattle.brd_kernel.specs.Holding.{AreLocks};
+ghost use Rattle.brd_sysgate.specs.Gate.{caller_of, read_of};
 ghost use Rattle.brd_board.specs.declared.event.Event.{Event as EventOf};
 ghost use Rattle.brd_board.specs.declared.event.Event.TheVariants.{Step};
 ghost use Rattle.brd_board.specs.declared.event.Report.TheVariants as report;
@@ -102,6 +104,17 @@ pub fn a_spin_lock_has_one_holder()
     ensures goes_on { (image : ImageOf) (config : Configuration) (board : BoardState) (events : List EventOf)
         (event : EventOf) → boot image config ≡ Ok board →
         LocksGoOn (after board events) event (happens (after board events) event).board }
+{}
+
+/// After every list of events from a boot the kernel has the profile just where its configuration asks for it. Where it
+/// doesn't, a SYSCALL with a number above 62 is E_RSFN, whoever makes it.
+pub fn the_profile_alone_has_more_calls()
+    ensures stays { (image : ImageOf) (config : Configuration) (board : BoardState) (events : List EventOf) →
+        boot image config ≡ Ok board → (after board events).kernel.standard ≡ config.standard }
+    ensures refused { (image : ImageOf) (config : Configuration) (board : BoardState) (events : List EventOf)
+        (s : State) (cpu : ℕ) →
+        boot image config ≡ Ok board → config.standard ≡ false → 62 < read s 2 →
+        read_of s (caller_of (after board events).kernel cpu) ≡ Err Rsfn }
 {}
 
 /// A board that is off stays as it is: whatever happens, it reports Off and nothing else, and after every list of

@@ -29,6 +29,8 @@ starts_at address =
 abbrev pub kernel : KernelState
 kernel = record {
   off = false;
+  standard = false;
+  clock = 0;
   time = record { count = 0; dues = [] };
   tasks = record { rows = []; contexts = starts_at 0 ∷ starts_at base ∷ starts_at (base + 12) ∷ []; ready = [] };
   semaphores = [];
