@@ -7,8 +7,9 @@ use Rattle.brd_exec.specs.State.{State, read}
 use Rattle.brd_kernel.specs.declared.call.Call.{Call}
 use Rattle.brd_kernel.specs.declared.call.Call.TheVariants as call
 use Rattle.brd_kernel.specs.declared.call.Ercd.{Ercd}
+use Rattle.brd_sysgate.specs.declared.gate.Agent.{Agent}
 use Rattle.brd_sysgate.specs.declared.gate.Caller.{Caller}
-use Rattle.brd_sysgate.specs.Gate.{Service, table, row_of, arguments_of, may_call, allowed, read_of}
+use Rattle.brd_sysgate.specs.Gate.{Service, table_of, row_in, arguments_of, may_call, allowed, read_of}
 use Rattle.brd_blocks.specs.Looking.{asks_ter_tsk}
 use Rattle.brd_blocks.proofs.OwnLemmas.{and-left, and-right}
 
@@ -21,8 +22,9 @@ abbrev only_fourth : List ℕ → List Service → Bool
 only_fourth a [] = true
 only_fourth a (s ∷ services) = (s.number == 4 || not (is_ter (s.call a))) && only_fourth a services
 
-table-fourth : (a b c d : ℕ) → only_fourth (a ∷ b ∷ c ∷ d ∷ []) table ≡ true
-table-fourth a b c d = refl
+table-fourth : (standard : Bool) (a b c d : ℕ) → only_fourth (a ∷ b ∷ c ∷ d ∷ []) (table_of standard) ≡ true
+table-fourth true a b c d = refl
+table-fourth false a b c d = refl
 
 or-not : (x y : Bool) → (x || not y) ≡ true → y ≡ true → x ≡ true
 or-not true y is other = refl
@@ -70,15 +72,17 @@ allowed-call : (may : Bool) (one other : Call) → given may one ≡ asking othe
 allowed-call true one other is = cc
 allowed-call false one other is = let wrong : ⊥ = cc in absurd wrong
 
-row-fourth : (a : List ℕ) (number name id : ℕ) (caller : Caller) (row : Option Service) → only_fourth a table ≡ true → row_of number ≡ row →
-    allowed caller name (option_map (λ (it : Service). record { place = it.place; call = it.call a }) row) ≡ Ok (call.TerTsk id) → number ≡ 4
-row-fourth a number name id caller None only is asks = let wrong : ⊥ = cc in absurd wrong
-row-fourth a number name id caller (Some s) only is asks =
-    found-fourth a number table s only is
-    (ap is_ter (allowed-call (may_call caller s.place name) (s.call a) (call.TerTsk id) asks))
+row-fourth : (a : List ℕ) (number name id : ℕ) (agent : Agent) (services : List Service) (row : Option Service) →
+    only_fourth a services ≡ true → row_in services number ≡ row →
+    allowed agent name (option_map (λ (it : Service). record { place = it.place; call = it.call a }) row) ≡ Ok (call.TerTsk id) → number ≡ 4
+row-fourth a number name id agent services None only is asks = let wrong : ⊥ = cc in absurd wrong
+row-fourth a number name id agent services (Some s) only is asks =
+    found-fourth a number services s only is
+    (ap is_ter (allowed-call (may_call agent s.place name) (s.call a) (call.TerTsk id) asks))
 
 pub ter-asked : (s : State) (caller : Caller) (id : ℕ) → read_of s caller ≡ Ok (call.TerTsk id) → asks_ter_tsk s ≡ true
 ter-asked s caller id asks =
     eq-eqb (read s 2) 4
-    (row-fourth (arguments_of s) (read s 2) (read s 4) id caller (row_of (read s 2))
-    (table-fourth (read s 4) (read s 5) (read s 6) (read s 7)) refl asks)
+    (row-fourth (arguments_of s) (read s 2) (read s 4) id caller.agent (table_of caller.standard)
+    (row_in (table_of caller.standard) (read s 2))
+    (table-fourth caller.standard (read s 4) (read s 5) (read s 6) (read s 7)) refl asks)

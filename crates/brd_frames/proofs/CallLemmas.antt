@@ -20,11 +20,12 @@ use Rattle.brd_kernel.specs.Answer.{code_of}
 use Rattle.brd_kernel.specs.Kernel.{KernelState, processor_at, running_in, executor_by, executor_in, executor_on, context_of, with_context_of, context_on}
 use Rattle.brd_kernel.specs.Row.{Row, Served, refused, served_object, served, or_refused}
 use Rattle.brd_kernel.specs.Services.{is_held_elsewhere, is_no_processor, named, act_tsk, mact_tsk, ter_tsk, caller_on, serve_by, comes_again}
+use Rattle.brd_sysgate.specs.declared.gate.Agent.{Agent}
+use Rattle.brd_sysgate.specs.declared.gate.Agent.TheVariants as agent
 use Rattle.brd_sysgate.specs.declared.gate.Caller.{Caller}
-use Rattle.brd_sysgate.specs.declared.gate.Caller.TheVariants as caller
 use Rattle.brd_sysgate.specs.declared.place.Place.{Place}
 use Rattle.brd_sysgate.specs.declared.place.Place.TheVariants as place
-use Rattle.brd_sysgate.specs.Gate.{Service, table, may_call, arguments_of, allowed, read_of, written, caller_by, caller_in, caller_of, served_call, changed_in, with_changed_context, replied, is_again, called_for, called_in, called}
+use Rattle.brd_sysgate.specs.Gate.{Service, table_of, may_call, arguments_of, allowed, read_of, written, agent_by, agent_in, caller_of, served_call, changed_in, with_changed_context, replied, is_again, called_for, called_in, called}
 use Rattle.brd_frames.specs.Apart.{starts}
 use Rattle.brd_frames.proofs.TableLemmas.{Contexts, At, Unsteady, Restarted}
 use Rattle.brd_frames.proofs.KernelLemmas.{k-with}
@@ -99,6 +100,7 @@ replied-alike f g k cpu one two alike at =
 
 abbrev fits : Place → Call → Bool
 fits place.Handler call.ExtTsk = false
+fits place.Anywhere call.ExtTsk = false
 fits _ call.ExtTsk = true
 fits place.Handler call.RetInt = true
 fits _ call.RetInt = false
@@ -108,11 +110,12 @@ abbrev all_fit : List ℕ → List Service → Bool
 all_fit a [] = true
 all_fit a (s ∷ services) = fits s.place (s.call a) && all_fit a services
 
-table-fits : (a : List ℕ) → all_fit a table ≡ true
-table-fits a = refl
+table-fits : (standard : Bool) (a : List ℕ) → all_fit a (table_of standard) ≡ true
+table-fits true a = refl
+table-fits false a = refl
 
 -- a call that was let through
-record Let (who : Caller) (first : ℕ) (c : Call) : Type 0 where
+record Let (who : Agent) (first : ℕ) (c : Call) : Type 0 where
   from : Place
   may : may_call who from first ≡ true
   fit : fits from c ≡ true
@@ -125,14 +128,14 @@ second-true : (x y : Bool) → (x && y) ≡ true → y ≡ true
 second-true true y is = is
 second-true false y is = absurd (false≢true is)
 
-let-row : (who : Caller) (first : ℕ) (from : Place) (it c : Call) (may : Bool) (code : Ercd) → may_call who from first ≡ may →
+let-row : (who : Agent) (first : ℕ) (from : Place) (it c : Call) (may : Bool) (code : Ercd) → may_call who from first ≡ may →
     fits from it ≡ true → (if may then Ok it else Err code) ≡ Ok c → Let who first c
 let-row who first from it c true code may fit is =
     let same : it ≡ c = cc in
     record { from = from; may = may; fit = subst (λ x. fits from x ≡ true) same fit }
 let-row who first from it c false code may fit is = let wrong : ⊥ = cc in absurd wrong
 
-let-by : (here : Bool) (who : Caller) (first number : ℕ) (a : List ℕ) (s : Service) (services : List Service) (c : Call) →
+let-by : (here : Bool) (who : Agent) (first number : ℕ) (a : List ℕ) (s : Service) (services : List Service) (c : Call) →
     fits s.place (s.call a) ≡ true →
     (allowed who first (option_map (λ x. record { place = x.place; call = x.call a }) (find (λ x. x.number == number) services)) ≡ Ok c → Let who first c) →
     allowed who first (option_map (λ x. record { place = x.place; call = x.call a })
@@ -140,7 +143,7 @@ let-by : (here : Bool) (who : Caller) (first number : ℕ) (a : List ℕ) (s : S
 let-by true who first number a s services c fit rest is = let-row who first s.place (s.call a) c (may_call who s.place first) _ refl fit is
 let-by false who first number a s services c fit rest is = rest is
 
-let-of : (who : Caller) (first number : ℕ) (a : List ℕ) (services : List Service) (c : Call) → all_fit a services ≡ true →
+let-of : (who : Agent) (first number : ℕ) (a : List ℕ) (services : List Service) (c : Call) → all_fit a services ≡ true →
     allowed who first (option_map (λ x. record { place = x.place; call = x.call a }) (find (λ x. x.number == number) services)) ≡ Ok c →
     Let who first c
 let-of who first number a [] c fit is = let wrong : ⊥ = cc in absurd wrong
@@ -148,11 +151,13 @@ let-of who first number a (s ∷ services) c fit is =
     let-by (s.number == number) who first number a s services c (first-true (fits s.place (s.call a)) (all_fit a services) fit)
     (let-of who first number a services c (second-true (fits s.place (s.call a)) (all_fit a services) fit)) is
 
-let-read : (s : State) (who : Caller) (c : Call) → read_of s who ≡ Ok c → Let who (read s 4) c
-let-read s who c is = let-of who (read s 4) (read s 2) (arguments_of s) table c (table-fits (arguments_of s)) is
+let-read : (s : State) (who : Caller) (c : Call) → read_of s who ≡ Ok c → Let who.agent (read s 4) c
+let-read s who c is =
+    let-of who.agent (read s 4) (read s 2) (arguments_of s) (table_of who.standard) c (table-fits who.standard (arguments_of s)) is
 
-handler-exits : (from : Place) (first : ℕ) → may_call caller.Handler from first ≡ true → fits from call.ExtTsk ≡ true → ⊥
+handler-exits : (from : Place) (first : ℕ) → may_call agent.Handler from first ≡ true → fits from call.ExtTsk ≡ true → ⊥
 handler-exits place.Handler first may fit = false≢true fit
+handler-exits place.Anywhere first may fit = false≢true fit
 handler-exits place.Task first may fit = false≢true may
 handler-exits place.LockedTask first may fit = false≢true may
 handler-exits place.NotHolding first may fit = false≢true may
@@ -160,8 +165,9 @@ handler-exits place.Waiting first may fit = false≢true may
 handler-exits place.OnTask first may fit = false≢true may
 
 task-returns : (id : ℕ) (locked disabled holding : Bool) (from : Place) (first : ℕ) →
-    may_call (caller.Task id locked disabled holding) from first ≡ true → fits from call.RetInt ≡ true → ⊥
+    may_call (agent.Task id locked disabled holding) from first ≡ true → fits from call.RetInt ≡ true → ⊥
 task-returns id locked disabled holding place.Handler first may fit = false≢true may
+task-returns id locked disabled holding place.Anywhere first may fit = false≢true fit
 task-returns id locked disabled holding place.Task first may fit = false≢true fit
 task-returns id locked disabled holding place.LockedTask first may fit = false≢true fit
 task-returns id locked disabled holding place.NotHolding first may fit = false≢true fit
@@ -171,13 +177,13 @@ task-returns id locked disabled holding place.OnTask first may fit = false≢tru
 -- Who makes a call, by who executes.
 
 handler-by : (stopped : Bool) (running handling : Option ℕ) (id : ℕ) (p : Processor) →
-    (if stopped then None else executor_by running handling) ≡ Some executor.Handler → caller_by id p handling ≡ caller.Handler
+    (if stopped then None else executor_by running handling) ≡ Some executor.Handler → agent_by id p handling ≡ agent.Handler
 handler-by true running handling id p is = let wrong : ⊥ = cc in absurd wrong
 handler-by false running (Some line) id p is = refl
 handler-by false (Some other) None id p is = let wrong : ⊥ = cc in absurd wrong
 handler-by false None None id p is = let wrong : ⊥ = cc in absurd wrong
 
-handler-calls : (found : Option Processor) (id : ℕ) → executor_in found ≡ Some executor.Handler → caller_in id found ≡ caller.Handler
+handler-calls : (found : Option Processor) (id : ℕ) → executor_in found ≡ Some executor.Handler → agent_in id found ≡ agent.Handler
 handler-calls None id is = refl
 handler-calls (Some p) id is = handler-by p.stopped p.running p.handling id p is
 
@@ -186,7 +192,7 @@ record CallsAsTask (found : Option Processor) (id task : ℕ) : Type 0 where
   locked : Bool
   disabled : Bool
   holding : Bool
-  calls : caller_in id found ≡ caller.Task id locked disabled holding
+  calls : agent_in id found ≡ agent.Task id locked disabled holding
   runs : running_in found ≡ Some task
 
 runs-by : (running : Option ℕ) (task : ℕ) → executor_by running None ≡ Some (executor.Task task) → running ≡ Some task
@@ -201,7 +207,7 @@ task-by false None id task p has is = record {
   locked = p.locked;
   disabled = p.disabled;
   holding = is_some p.spin;
-  calls = ap (caller_by id p) has;
+  calls = ap (agent_by id p) has;
   runs = runs-by p.running task is;
 }
 

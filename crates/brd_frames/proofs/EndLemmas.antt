@@ -39,7 +39,7 @@ use Rattle.brd_kernel.specs.Answer.{e_ok, code_of}
 use Rattle.brd_kernel.specs.Kernel.{KernelState, processor_at, with_tasks, with_processor, executor_by, executor_in, executor_on, context_of, with_context_of, context_on, deliverable, handles, line_at}
 use Rattle.brd_kernel.specs.Waits.{can_wait, with_wait, due_by, due_after, released_in, reason_of, unlisted, broken_off, ended_in, answer_by, timed_out, all_timed_out, faulted_task, faulted_in}
 use Rattle.brd_kernel.specs.Row.{Served, served}
-use Rattle.brd_kernel.specs.Services.{named, act_tsk, can_act, ext_tsk, ter_tsk, chg_pri, get_pri, mact_tsk, mig_tsk, get_pid, rot_rdq, irot_rdq, get_tid, mark_dsp, mark_cpu, tslp_tsk, wup_tsk, can_wup, rel_wai, sus_tsk, rsm_tsk, dly_tsk, sig_sem, twai_sem, set_flg, clr_flg, twai_flg, tsnd_dtq, fsnd_dtq, trcv_dtq, put_chr, ext_ker, ret_int, loc_spn, try_spn, unl_spn}
+use Rattle.brd_kernel.specs.Services.{named, act_tsk, can_act, ext_tsk, ter_tsk, chg_pri, get_pri, mact_tsk, mig_tsk, get_pid, rot_rdq, irot_rdq, get_tid, mark_dsp, mark_cpu, tslp_tsk, wup_tsk, can_wup, rel_wai, sus_tsk, rsm_tsk, dly_tsk, sig_sem, twai_sem, set_flg, clr_flg, twai_flg, tsnd_dtq, fsnd_dtq, trcv_dtq, put_chr, ext_ker, ret_int, loc_spn, try_spn, unl_spn, get_tim, set_tim, sns, mget_tid, mrot_rdq, ref_tsk, ref_sem, ref_flg, ref_dtq}
 use Rattle.brd_kernel.specs.Services.{is_asleep, want_of, or_waits, priority_or_initial, with_released, with_all_released_in, with_satisfied_of, handed_over, with_priority_in, flag_got, queue_sent, queue_received, unmarked_on, is_taken, lock_taken_by, lock_given_by, serve_by, caller_on}
 use Rattle.brd_kernel.proofs.ServedLemmas.{Wanted, Leaves, Passes, leaves-row, leaves-if, leaves-or_refused}
 use Rattle.brd_kernel.proofs.WalkLemmas.{in_semaphore, in_flag, in_senders, in_receivers}
@@ -373,6 +373,15 @@ serve-lives id k cpu caller (call.TrySpn l) spares was =
     leaves-row (Living id) (try_spn k cpu l) (λ lock passes. taken-lives id k cpu l (processor_at k cpu) was)
 serve-lives id k cpu caller (call.UnlSpn l) spares was =
     leaves-row (Living id) (unl_spn k cpu l) (λ lock passes. given-lives id k cpu (processor_at k cpu) was)
+serve-lives id k cpu caller call.GetTim spares was = leaves-row (Living id) (get_tim k) (λ x passes. was)
+serve-lives id k cpu caller (call.SetTim time) spares was = leaves-row (Living id) (set_tim k time) (λ x passes. was)
+serve-lives id k cpu caller (call.Sns what) spares was = leaves-row (Living id) (sns k cpu what) (λ p passes. was)
+serve-lives id k cpu caller (call.MgetTid on) spares was = leaves-row (Living id) (mget_tid k on) (λ p passes. was)
+serve-lives id k cpu caller (call.MrotRdq priority on) spares was = leaves-row (Living id) (mrot_rdq k caller priority on) (λ p passes. was)
+serve-lives id k cpu caller (call.RefTsk t word) spares was = leaves-row (Living id) (ref_tsk k (named caller t) word) (λ task passes. was)
+serve-lives id k cpu caller (call.RefSem s word) spares was = leaves-row (Living id) (ref_sem k s word) (λ (it : Semaphore) passes. was)
+serve-lives id k cpu caller (call.RefFlg flag word) spares was = leaves-row (Living id) (ref_flg k flag word) (λ (it : Flag) passes. was)
+serve-lives id k cpu caller (call.RefDtq q word) spares was = leaves-row (Living id) (ref_dtq k q word) (λ (it : DataQueueState) passes. was)
 
 -- A SYSCALL.
 

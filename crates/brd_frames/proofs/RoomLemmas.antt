@@ -209,7 +209,7 @@ rooms-law Known k cpu caller = record {
   breaks = λ id answer. broken-rooms k id answer;
   sleeps = λ due task there none may. wait-rooms k caller reason.Sleep due k (rooms-same k);
   delays = λ due may. wait-rooms k caller reason.Delay (Some due) k (rooms-same k);
-  rotates = λ priority p there. in-tasks k _ refl;
+  rotates = λ on priority p there. in-tasks k _ refl;
   marks = λ p q there runs holding. record { tasks = refl; handlers = refl };
   returns = λ p there. record { tasks = refl; handlers = length-set k.handler_contexts cpu _ };
   signals = λ id (s : Semaphore) there.
@@ -230,6 +230,7 @@ rooms-law Known k cpu caller = record {
       wait-rooms k caller (reason.On (lacked lacks) id) due (awaiting k caller id lacks) (awaiting-rooms k caller id lacks);
   writes = λ word. record { tasks = refl; handlers = refl };
   ends_all = record { tasks = refl; handlers = refl };
+  sets_clock = λ clock. record { tasks = refl; handlers = refl };
 }
 
 -- Events.

@@ -1,6 +1,6 @@
 -- What a service call leaves and answers where contexts in the kernel are other ones: the same, with the other contexts.
 use Rattle.std.proofs.Common.{◌≡◌, ℕ, Bool, true, false, List, refl, sym, ap, ◌∙◌}
-use Rattle.std.specs.Prelude.{if◌then◌else◌, ◌==◌, ◌&&◌, is_some, [], ◌∷◌, slice_index_or, Option, None, Some, is_ok, Result, Ok, Err}
+use Rattle.std.specs.Prelude.{if◌then◌else◌, ◌==◌, ◌&&◌, is_some, [], ◌∷◌, slice_index, slice_index_or, Option, None, Some, is_ok, Result, Ok, Err}
 use Rattle.std.proofs.lemmas.Bool.{and_from, eq-eqb}
 use Rattle.brd_tasks.specs.declared.status.WaitReason.{WaitReason}
 use Rattle.brd_tasks.specs.declared.status.WaitReason.TheVariants as reason
@@ -34,7 +34,8 @@ use Rattle.brd_kernel.specs.Answer.{e_ok, code_of}
 use Rattle.brd_kernel.specs.Kernel.{KernelState, processor_at, with_tasks, with_processor, holding, letting_go, executor_in, executor_on}
 use Rattle.brd_kernel.specs.Waits.{due_after, due_by, can_wait, with_wait, released_in, ended_in, reordered_in}
 use Rattle.brd_kernel.specs.Row.{Row, Served, refused, served_object, served, ok, silent}
-use Rattle.brd_kernel.specs.Services.{named, act_tsk, can_act, ext_tsk, ter_tsk, chg_pri, get_pri, mact_tsk, mig_tsk, get_pid, rot_rdq, irot_rdq, get_tid, mark_dsp, mark_cpu, tslp_tsk, wup_tsk, can_wup, rel_wai, sus_tsk, rsm_tsk, dly_tsk, sig_sem, twai_sem, set_flg, clr_flg, twai_flg, tsnd_dtq, fsnd_dtq, trcv_dtq, put_chr, ext_ker, ret_int, loc_spn, try_spn, unl_spn}
+use Rattle.brd_kernel.specs.Services.{named, act_tsk, can_act, ext_tsk, ter_tsk, chg_pri, get_pri, mact_tsk, mig_tsk, get_pid, rot_rdq, irot_rdq, get_tid, mark_dsp, mark_cpu, tslp_tsk, wup_tsk, can_wup, rel_wai, sus_tsk, rsm_tsk, dly_tsk, sig_sem, twai_sem, set_flg, clr_flg, twai_flg, tsnd_dtq, fsnd_dtq, trcv_dtq, put_chr, ext_ker, ret_int, loc_spn, try_spn, unl_spn, get_tim, set_tim, sns, mget_tid, mrot_rdq, ref_tsk, ref_sem, ref_flg, ref_dtq}
+use Rattle.brd_kernel.specs.Services.{bit_word, sensed, system_time, id_or_none, task_words, semaphore_words, flag_words, queue_words}
 use Rattle.brd_kernel.specs.Services.{is_held_elsewhere, is_no_processor, is_asleep, want_of, or_waits, priority_or_initial, with_released, with_all_released_in, with_satisfied_of, handed_over, with_priority_in, flag_got, queue_sent, queue_received, unmarked_on, is_taken, lock_taken_by, lock_given_by, serve_by}
 use Rattle.brd_kernel.proofs.SameLemmas.{Same, same-ended, same-broken, same-reordered, same-satisfied, same-released, same-handed}
 use Rattle.brd_kernel.proofs.WalkLemmas.{in_semaphore, in_flag, in_senders, in_receivers}
@@ -388,3 +389,20 @@ serve-alike f g k cpu caller (call.TrySpn l) free =
 serve-alike f g k cpu caller (call.UnlSpn l) free =
     row (unl_spn k cpu l) _ (λ lock passed.
     answers _ _ e_ok None (given-with f g k cpu (processor_at k cpu)) (given-stays k cpu (processor_at k cpu) refl))
+serve-alike f g k cpu caller call.GetTim free = row (get_tim k) _ (λ x passed. answers _ _ e_ok (Some (system_time k)) refl refl)
+serve-alike f g k cpu caller (call.SetTim time) free = row (set_tim k time) _ (λ x passed. answers _ _ e_ok None refl refl)
+serve-alike f g k cpu caller (call.Sns what) free =
+    row (sns k cpu what) _ (λ (p : Processor) passed. answers _ _ (bit_word (sensed p what)) None refl refl)
+serve-alike f g k cpu caller (call.MgetTid on) free =
+    row (mget_tid k on) _ (λ (p : Processor) passed. answers _ _ e_ok (Some (id_or_none p.running)) refl refl)
+serve-alike f g k cpu caller (call.MrotRdq priority on) free =
+    row (mrot_rdq k caller priority on) _ (λ p passed. tasks f g k cpu _ _ refl)
+serve-alike f g k cpu caller (call.RefTsk t word) free =
+    row (ref_tsk k (named caller t) word) _ (λ (task : Task) passed.
+    answers _ _ e_ok (Some (slice_index (task_words k (named caller t) task) word)) refl refl)
+serve-alike f g k cpu caller (call.RefSem s word) free =
+    row (ref_sem k s word) _ (λ (it : Semaphore) passed. answers _ _ e_ok (Some (slice_index (semaphore_words it) word)) refl refl)
+serve-alike f g k cpu caller (call.RefFlg flag word) free =
+    row (ref_flg k flag word) _ (λ (it : Flag) passed. answers _ _ e_ok (Some (slice_index (flag_words it) word)) refl refl)
+serve-alike f g k cpu caller (call.RefDtq q word) free =
+    row (ref_dtq k q word) _ (λ (it : DataQueueState) passed. answers _ _ e_ok (Some (slice_index (queue_words it) word)) refl refl)

@@ -228,7 +228,7 @@ rests-law Known id k cpu caller apart was = record {
   breaks = λ at answer. broken-rests id at answer k was;
   sleeps = λ due task there none known. wait-rests id caller k reason.Sleep due k (apart known) was;
   delays = λ due known. wait-rests id caller k reason.Delay (Some due) k (apart known) was;
-  rotates = λ priority p there. was;
+  rotates = λ on priority p there. was;
   marks = λ p q there runs holding. was;
   returns = λ p there. was;
   signals = λ at (s : Semaphore) there.
@@ -248,6 +248,7 @@ rests-law Known id k cpu caller apart was = record {
   awaits = λ at due lacks known. wait-rests id caller k (reason.On (lacked lacks) at) due (awaiting k caller at lacks) (apart known) was;
   writes = λ word. was;
   ends_all = was;
+  sets_clock = λ clock. was;
 }
 
 -- Who waits is the task that executes.

@@ -204,7 +204,7 @@ call-law them k cpu has =
       breaks = λ id answer. broken-has them k id answer has;
       sleeps = λ due task there none may. wait-has them k caller reason.Sleep due k has;
       delays = λ due may. wait-has them k caller reason.Delay (Some due) k has;
-      rotates = λ priority q there. has;
+      rotates = λ on priority q there. has;
       marks = λ q new there same how. has;
       returns = λ q there. has;
       signals = λ id (s : Semaphore) there.
@@ -223,6 +223,7 @@ call-law them k cpu has =
       awaits = λ id due lacks may. wait-has them k caller (reason.On (lacked lacks) id) due (awaiting k caller id lacks) has;
       writes = λ word. has;
       ends_all = has;
+      sets_clock = λ clock. has;
     }
 
 calls-keep : (them : List Bool) (k : KernelState) (cpu : ℕ) → Calls (Has them) (Has them) k cpu
