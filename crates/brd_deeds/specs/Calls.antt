@@ -74,6 +74,15 @@ acts_done doer (call.ClrFlg id bits) second after log = log
 acts_done doer (call.PutChr byte) second after log = log
 acts_done doer call.ExtKer second after log = log
 acts_done doer call.RetInt second after log = log
+acts_done doer call.GetTim second after log = log
+acts_done doer (call.SetTim time) second after log = log
+acts_done doer (call.Sns what) second after log = log
+acts_done doer (call.MgetTid cpu) second after log = log
+acts_done doer (call.MrotRdq priority cpu) second after log = log
+acts_done doer (call.RefTsk id word) second after log = log
+acts_done doer (call.RefSem id word) second after log = log
+acts_done doer (call.RefFlg id word) second after log = log
+acts_done doer (call.RefDtq id word) second after log = log
 
 -- The wait of a task ended with what it waited for: it was answered with E_OK and this second result, by a call of
 -- `caller`.
@@ -118,6 +127,15 @@ acts_taken caller doer (call.UnlSpn id) second log = log
 acts_taken caller doer (call.PutChr byte) second log = log
 acts_taken caller doer call.ExtKer second log = log
 acts_taken caller doer call.RetInt second log = log
+acts_taken caller doer call.GetTim second log = log
+acts_taken caller doer (call.SetTim time) second log = log
+acts_taken caller doer (call.Sns what) second log = log
+acts_taken caller doer (call.MgetTid cpu) second log = log
+acts_taken caller doer (call.MrotRdq priority cpu) second log = log
+acts_taken caller doer (call.RefTsk id word) second log = log
+acts_taken caller doer (call.RefSem id word) second log = log
+acts_taken caller doer (call.RefFlg id word) second log = log
+acts_taken caller doer (call.RefDtq id word) second log = log
 
 -- a call's caller waits
 abbrev pub acts_waiting : Doer → Call → Log → Log

@@ -109,7 +109,16 @@ impl Log {
             | Call::ClrFlg(_, _)
             | Call::PutChr(_)
             | Call::ExtKer
-            | Call::RetInt => Ok(()),
+            | Call::RetInt
+            | Call::GetTim
+            | Call::SetTim(_)
+            | Call::Sns(_)
+            | Call::MgetTid(_)
+            | Call::MrotRdq(_, _)
+            | Call::RefTsk(_, _)
+            | Call::RefSem(_, _)
+            | Call::RefFlg(_, _)
+            | Call::RefDtq(_, _) => Ok(()),
         }
     }
 
@@ -179,7 +188,16 @@ impl Log {
             | Call::UnlSpn(_)
             | Call::PutChr(_)
             | Call::ExtKer
-            | Call::RetInt => Ok(()),
+            | Call::RetInt
+            | Call::GetTim
+            | Call::SetTim(_)
+            | Call::Sns(_)
+            | Call::MgetTid(_)
+            | Call::MrotRdq(_, _)
+            | Call::RefTsk(_, _)
+            | Call::RefSem(_, _)
+            | Call::RefFlg(_, _)
+            | Call::RefDtq(_, _) => Ok(()),
         }
     }
 

@@ -6,8 +6,8 @@ use crate::keywords::{OTHERS, Told, WORDS, told_of};
 use crate::names::{advice, near_name};
 use crate::scan::{behind, first};
 use crate::values_of::value_fault;
-use brd_config::{ConfigFault, KEYWORDS, Keyword, attribute_named, class_of, keyword_of};
-use brd_text::{Scanner, Token, is_digit, is_name, number};
+use brd_config::{ConfigFault, KEYWORDS, Keyword, attribute_named, class_of, keyword_of, open};
+use brd_text::{Token, is_digit, is_name, number};
 use std::alloc::Global;
 
 /// The diagnosis of a configuration's fault.
@@ -49,7 +49,7 @@ fn form_fault(text: &[u8], wanted: usize) -> Option<Finding<'_>> {
     if text.starts_with(BYTE_ORDER_MARK) {
         return (wanted == 1).then_some(said(MARKED));
     }
-    let mut scanner = Scanner::new(text);
+    let (_, mut scanner) = open(text);
     let mut reading = Reading {
         word: &[],
         told: told_of(Keyword::Board),
@@ -223,6 +223,10 @@ impl<'a> Reading<'a> {
 /// What is said of a word that begins no statement.
 fn unknown_statement(word: &[u8]) -> Finding<'_> {
     let unknown = Finding::at(&[], b"this kernel hasn't ~ (^)", word);
+    if word == b"PROFILE".as_slice() {
+        let template = b"~ stands once, before BOARD, as PROFILE(STANDARD);";
+        return Finding::at(&[], template, word);
+    }
     for (known, _) in KEYWORDS {
         if known.eq_ignore_ascii_case(word) {
             return Finding::at(&[], b"~ is written in upper case", word);

@@ -4,7 +4,7 @@ use crate::finding::Finding;
 use crate::keywords::told_of;
 use brd_base::is_ram_size;
 use brd_config::{
-    ConfigFault, Keyword, attribute_named, class_of, keyword_of, read_board, read_statement,
+    ConfigFault, Keyword, attribute_named, class_of, keyword_of, open, read_board, read_statement,
 };
 use brd_text::{Scanner, Token, number};
 use std::alloc::Global;
@@ -74,10 +74,10 @@ impl<'a> Valued<'a> {
     }
 }
 
-/// How many statements come before the first that can't stand there, and the number of processors.
+/// How many statements from BOARD on come before the first that can't stand there, and the number of processors.
 fn before_fault(alloc: Global, text: &[u8]) -> Option<(usize, u64)> {
-    let mut tokens = Scanner::new(text);
-    let mut draft = match read_board(alloc, &mut tokens) {
+    let (standard, mut tokens) = open(text);
+    let mut draft = match read_board(alloc, standard, &mut tokens) {
         Ok(draft) => draft,
         Err(ConfigFault::NoMemory) => return None,
         Err(_) => return Some((0, 0)),
@@ -95,7 +95,7 @@ fn before_fault(alloc: Global, text: &[u8]) -> Option<(usize, u64)> {
 /// What is wrong with the values of the first statement of a text that can't stand there.
 pub(crate) fn value_fault(alloc: Global, text: &[u8], fault: ConfigFault) -> Option<Finding<'_>> {
     let (before, processors) = before_fault(alloc, text)?;
-    let mut scanner = Scanner::new(text);
+    let (_, mut scanner) = open(text);
     for _ in 0..before {
         next_statement(&mut scanner, text.len())?;
     }
@@ -189,14 +189,14 @@ fn is_maximum(maximum: u64) -> bool {
     maximum != 0 && maximum <= u16::MAX as u64
 }
 
-/// What is defined for the second time, where n statements stand before it.
+/// What is defined for the second time, where n statements from BOARD on stand before it.
 fn duplicate<'a>(
     text: &[u8],
     before: usize,
     again: &Valued<'a>,
     keyword: Keyword,
 ) -> Option<Finding<'a>> {
-    let mut scanner = Scanner::new(text);
+    let (_, mut scanner) = open(text);
     let is_board = matches!(keyword, Keyword::Board);
     for _ in 0..before {
         let read = next_statement(&mut scanner, text.len())?;

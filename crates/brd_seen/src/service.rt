@@ -124,15 +124,22 @@ fn arguments_of(call: Call) -> [Shown; 4] {
 /// What the second result of a call is, in $v1.
 fn second_of(call: Call) -> Shown {
     match call {
-        Call::GetPri(_) | Call::GetPid | Call::GetTid => Shown::Number,
-        Call::TwaiFlg(..) | Call::TrcvDtq(..) => Shown::Bits,
+        Call::GetPri(_)
+        | Call::GetPid
+        | Call::GetTid
+        | Call::GetTim
+        | Call::MgetTid(_)
+        | Call::RefTsk(..)
+        | Call::RefSem(..)
+        | Call::RefDtq(..) => Shown::Number,
+        Call::TwaiFlg(..) | Call::TrcvDtq(..) | Call::RefFlg(..) => Shown::Bits,
         _ => Shown::Nothing,
     }
 }
 
-/// Whether a call answers a count where others answer E_OK.
+/// Whether a call answers a count, or true or false, where others answer E_OK.
 fn is_counting(call: Call) -> bool {
-    matches!(call, Call::CanAct(_) | Call::CanWup(_))
+    matches!(call, Call::CanAct(_) | Call::CanWup(_) | Call::Sns(_))
 }
 
 /// Puts a value at the end.
