@@ -39,6 +39,11 @@ USES = {
     "ifsnd_dtq": (.1, .1, 2, "queue datum"), "irot_rdq": (.1, .1, 2, "priority"), "iget_tid": (.1, .1, 1, ""),
     "imact_tsk": (.1, .1, 3, "other processor"), "ret_int": (.1, .1, .5, ""), "unknown": (.1, .1, .1, ""),
     "loc_spn": (5, 2, .1, "lock"), "try_spn": (2, 1, .1, "lock"), "unl_spn": (.5, .3, .1, "lock"),
+    "get_tim": (.3, .3, .1, ""), "set_tim": (.1, .2, .1, "datum"), "sns_ctx": (.1, .1, .3, ""),
+    "sns_loc": (.2, .2, .1, ""), "sns_dsp": (.2, .2, .1, ""), "sns_dpn": (.2, .2, .1, ""),
+    "frsm_tsk": (.3, 1, .1, "task"), "mget_tid": (.2, .4, .1, "processor"), "mrot_rdq": (.2, .5, .1, "priority processor"),
+    "ref_tsk": (.5, 2, .1, "task word"), "ref_sem": (.3, .5, .1, "semaphore word"),
+    "ref_flg": (.3, .5, .1, "flag word"), "ref_dtq": (.3, .5, .1, "queue word"), "iget_pid": (.1, .1, .5, ""),
 }
 THEMES = {
     "everything": "", "links": "", "sleep": "slp_tsk tslp_tsk wup_tsk can_wup rel_wai sus_tsk rsm_tsk iwup_tsk",
@@ -49,6 +54,7 @@ THEMES = {
     "tasks": "act_tsk can_act ter_tsk chg_pri get_pri mact_tsk mig_tsk rot_rdq irot_rdq imact_tsk iact_tsk",
     "held": "dis_dsp loc_cpu ter_tsk mig_tsk sus_tsk rsm_tsk act_tsk",
     "lock": "loc_spn try_spn unl_spn dis_dsp loc_cpu ter_tsk",
+    "profile": "get_tim set_tim sns_loc sns_dsp sns_dpn frsm_tsk mget_tid mrot_rdq ref_tsk ref_sem ref_flg ref_dtq",
 }
 # Loads and stores, and what their addresses have to be multiples of.
 SIZES = {name: 1 for name in ("LB", "LBU", "SB", "LWL", "LWR", "SWL", "SWR")}
@@ -112,6 +118,7 @@ class Maker:
     def shape(self):
         """Which processors, tasks, objects and lines there are."""
         alone = self.often(.25) and self.theme not in ("links", "held", "lock")
+        self.standard = self.theme == "profile" or self.often(.5)
         self.processors = 1 if alone else self.chance(2, 2, 2, 2, 3, 3, 4, 8)
         self.tasks = self.ids(self.random.randrange(4, 11))
         priorities = self.random.sample(range(1, 17), self.random.randrange(2, 6))
@@ -160,6 +167,7 @@ class Maker:
             "bits": lambda: self.chance(1, 1, 2, 2, 3, 4, 5, 6, 7, 8, 0x80000000),
             "kept": lambda: self.chance(0, 0, 1, 0xFFFFFFFE, 0xFFFFFFFC),
             "mode": lambda: self.chance(0, 1),
+            "word": lambda: self.chance(0, 0, 1, 1, 2, 3, 4, 5, 6, 7, 8, 9),
             "datum": lambda: self.chance(self.random.randrange(256), self.random.getrandbits(32)),
         }[kind]()
 
@@ -168,7 +176,7 @@ class Maker:
         arguments = given or [self.argument(kind, caller) for kind in USES[name][3].split()]
         for register, value in enumerate(arguments, 4):
             code.set(register, value)
-        code.set(2, NUMBERS.get(name) or self.chance(0, 42, 47, 59, 63, 64, 99, 0x101))
+        code.set(2, NUMBERS.get(name) or self.chance(0, 42, 47, 59, 63, 77, 99, 0x101))
         if self.often(.08):
             branch = self.chance("BEQ", "BEQ", "BGEZAL", "BNE", "BEQL")
             code.add(branch, immediate=self.random.randrange(1, 4))
@@ -380,12 +388,12 @@ class Maker:
         data = self.random.getrandbits(8 * 64).to_bytes(64, "big")
         segments = [(self.start, self.code), (DATA, data)]
         self.setup = Setup(self.processors, ram, self.order, segments, tasks, self.semaphores, self.flags, self.queues,
-                           self.spin_locks, lines)
+                           self.spin_locks, lines, self.standard)
         bound = [(it.processor, "CRE_TSK(%d, {%d, 0x%x, 0x%x, %d, %d, %s});" % (
             it.id, 2 * it.starts, it.argument, it.address, it.priority, it.size,
             "NULL" if it.stack is None else hex(it.stack))) for it in tasks]
         bound += [(its, f"DEF_INH({line}, {{TA_HLNG, {address}}});") for line, (its, address) in lines.items()]
-        text = [f"BOARD({self.processors}, {ram});"]
+        text = ["PROFILE(STANDARD);"] * self.standard + [f"BOARD({self.processors}, {ram});"]
         text += [one if its == 1 else f"CLASS(TCL_{its}) {{ {one} }}" for its, one in bound]
         text += [f"CRE_SEM({key}, {{{int(by)}, {count}, {most}}});"
                  for key, (by, count, most) in self.semaphores.items()]

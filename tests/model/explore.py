@@ -344,10 +344,12 @@ def setup_of(text, image):
 
     def value(word):
         return sum({values[it] if it in values else int(it, 0) for it in re.split(r"\s*\|\s*", word.strip())})
-    kinds, tasks, lines, cpu = {"SEM": {}, "FLG": {}, "DTQ": {}, "SPN": {}}, [], {}, 1
+    kinds, tasks, lines, cpu, standard = {"SEM": {}, "FLG": {}, "DTQ": {}, "SPN": {}}, [], {}, 1, False
     for name, words, end in re.findall(r"(\w+)\s*\(([^;]*?)\)\s*(?=([;{]))|\}", text):
         words = [it.strip() for it in words.replace("{", " ").replace("}", " ").split(",")]
-        if name == "BOARD":
+        if name == "PROFILE":
+            standard = True
+        elif name == "BOARD":
             processors, ram = map(value, words)
         elif name == "CLASS":
             cpu = int(words[0][4:])
@@ -363,7 +365,7 @@ def setup_of(text, image):
             key, bits, *rest = [0 if it == "NULL" else value(it) for it in words]
             kinds[name[4:]][key] = {"SEM": (bool(bits & 1), *rest), "DTQ": (bool(bits & 1), *rest[:1]), "SPN": None,
                                     "FLG": (bool(bits & 1), bool(bits & 2), bool(bits & 4), *rest)}[name[4:]]
-    return Setup(processors, ram, image.order, image.segments, tasks, *kinds.values(), lines)
+    return Setup(processors, ram, image.order, image.segments, tasks, *kinds.values(), lines, standard)
 
 
 def wanted_of(words, symbols):

@@ -1,12 +1,13 @@
 """The kernel and the board of the model: tasks, objects, time, the table of service calls, events, the report.
 
-The uITRON 4.0 specification says what the calls do; TOPPERS/FMP what mact_tsk, imact_tsk, mig_tsk, get_pid and those of
-spin locks do. From where a call may come, the order of its refusals, that a call spins by coming again, put_chr,
-ext_ker, ret_int and the events are own choices.
+The uITRON 4.0 specification says what the calls do; TOPPERS/FMP what mact_tsk, imact_tsk, mig_tsk, get_pid, mget_tid,
+mrot_rdq and those of spin locks do. From where a call may come, the order of its refusals, that a call spins by coming
+again, that calls above 63 are there in the profile alone, that the ref_ calls tell a word each, put_chr, ext_ker,
+ret_int and the events are own choices.
 """
 import collections
 
-from machine import Context, Fault, Memory, RAM_START, execute, signed
+from machine import Context, Fault, Memory, RAM_START, WORD, execute, signed
 
 E_OK, E_RSFN, E_PAR, E_ID, E_CTX, E_ILUSE = 0, -10, -17, -18, -25, -28
 E_OBJ, E_NOEXS, E_QOVR, E_RLWAI, E_TMOUT = -41, -42, -43, -49, -50
@@ -16,9 +17,11 @@ CONSOLE_BYTES = 65536
 # place of it where the call is to come again.
 SILENT, DONE, AGAIN = (), (E_OK,), ("again",)
 
-# What a board is made of. Objects stand by their IDs, lines by their numbers, tasks in the order of their statements.
+# What a board is made of. Objects stand by their IDs, lines by their numbers, tasks in the order of their statements;
+# `standard` where it has the profile.
 Setup = collections.namedtuple("Setup",
-                               "processors ram order segments tasks semaphores flags queues spin_locks lines")
+                               "processors ram order segments tasks semaphores flags queues spin_locks lines standard",
+                               defaults=[False])
 TaskSetup = collections.namedtuple("TaskSetup", "id processor starts argument address priority size stack")
 
 
@@ -114,6 +117,8 @@ class Board:
         self.spin_locks = {key: SpinLock() for key in setup.spin_locks}
         self.lines, self.pending = setup.lines, set()
         self.now, self.off, self.console = 0, False, bytearray()
+        # (the system time before the first tick)
+        self.standard, self.clock = setup.standard, 0
         tasks = {it.id: Task(it, stack) for it, stack in zip(setup.tasks, stacks(setup))}
         self.tasks = dict(sorted(tasks.items()))
         for it in setup.tasks:
@@ -311,7 +316,9 @@ class Request:
     def __init__(self, board, processor, context):
         self.board, self.processor = board, processor
         self.caller = processor.running if processor.line is None else None
-        self.arguments, self.call = context.registers[4:8], CALLS.get(context.registers[2])
+        number = context.registers[2]
+        self.arguments = context.registers[4:8]
+        self.call = CALLS.get(number) if number < PROFILE or board.standard else None
         self.object = self.timeout = None
 
     def serve(self):
@@ -349,6 +356,8 @@ class Request:
 
     def may_come(self, place):
         """Whether a call may come from here."""
+        if place == ANYWHERE:
+            return True
         if self.caller is None or place == HANDLER:
             return self.caller is None and place == HANDLER
         if self.processor.locked:
@@ -513,9 +522,57 @@ class Request:
     def iget_tid(self):
         return E_OK, self.processor.running.id if self.processor.running else 0
 
+    def set_tim(self):
+        self.board.clock = self.arguments[0] - self.board.now
+
+    def mget_tid(self):
+        running = self.board.processors[self.arguments[0]].running
+        return E_OK, running.id if running else 0
+
+    def mrot_rdq(self):
+        priority, ready = self.arguments[0] or self.caller.priority, self.board.processors[self.arguments[1]].ready
+        for task in [task for task in ready if task.priority == priority][:1]:
+            self.board.move(task, priority)
+
+    def awaited_object(self, task):
+        """The ID of the object that a task waits for, 0 where it waits for none."""
+        board = self.board
+        for objects in (board.semaphores, board.flags, board.queues):
+            for key, it in objects.items():
+                if any(task.waits_in is value for value in vars(it).values() if isinstance(value, TaskList)):
+                    return key
+        return 0
+
+    def ref_tsk(self):
+        """The words of T_RTSK: states and waits by the numbers of the specification."""
+        task, waits_in = self.object, self.object.waits_in
+        states = {"ready": 2, "waiting": 4, "suspended": 8, "waiting-suspended": 12, "dormant": 16}
+        waits = {"sleep": 1, "delay": 2, "semaphore": 4, "flag": 8, "sender": 16, "receiver": 32}
+        runs = self.board.processors[task.processor].running is task
+        left = FOREVER if task.due is None else task.due - self.board.now - 1
+        return E_OK, [1 if runs else states[task.state], task.priority, task.priority,
+                      0 if waits_in is None else waits[waits_in.name], self.awaited_object(task),
+                      0 if waits_in is None else left, int(task.request is not None), int(task.wakeup),
+                      int(task.state in ("suspended", "waiting-suspended"))][self.arguments[1]]
+
+    def ref_sem(self):
+        return E_OK, [first(self.object.waiters), self.object.count][self.arguments[1]]
+
+    def ref_flg(self):
+        return E_OK, [first(self.object.waiters), self.object.pattern][self.arguments[1]]
+
+    def ref_dtq(self):
+        queue = self.object
+        return E_OK, [first(queue.senders), first(queue.receivers), len(queue.data)][self.arguments[1]]
+
     def ret_int(self):
         self.processor.line = self.processor.handler = None
         return SILENT
+
+
+def first(waiters):
+    """The ID of the first task of a list, 0 (TSK_NONE) where there is none."""
+    return waiters[0].id if waiters else 0
 
 
 def satisfied(pattern, bits, mode):
@@ -524,16 +581,22 @@ def satisfied(pattern, bits, mode):
 
 
 # From where a call may come: a task that isn't CPU-locked, any task, as the first but not while dispatching is
-# disabled, as the first but then not for itself, a handler. Which are which is an own choice.
+# disabled, as the first but then not for itself, a handler, any task or handler. Which are which is an own choice.
 TASK, LOCKED_TASK, WAITING, ON_TASK, HANDLER = "task", "locked task", "waiting", "on task", "handler"
+ANYWHERE = "anywhere"
+# The first number of the calls that are there in the profile alone.
+PROFILE = 64
 FOREVER, POLL = -1, 0
 # Which arguments are E_PAR.
 BAD_PRIORITY = lambda it: it.arguments[1] > 16
 BAD_PROCESSOR = lambda it: it.arguments[1] not in it.board.processors
 BAD_ROTATION = lambda it: it.arguments[0] > 16 or it.arguments[0] == 0 and it.caller is None
+BAD_FIRST = lambda it: it.arguments[0] not in it.board.processors
+BAD_TURN = lambda it: it.arguments[0] > 16
 BAD_TIMEOUT = lambda it: it.timeout < -1
 BAD_TIME = lambda it: it.arguments[0] > 0x7FFFFFFF
 BAD_WISH = lambda it: it.arguments[1] == 0 or it.arguments[2] > 1
+OF_TWO, OF_THREE, OF_NINE = (lambda it, most=most: it.arguments[1] > most for most in (1, 2, 8))
 # Why an object refuses, in the order of a row.
 ITSELF = E_ILUSE, lambda it: it.object is it.caller
 TAKEN = E_ILUSE, lambda it: not it.object.many and it.object.waiters
@@ -611,4 +674,18 @@ CALLS = {
     60: Call("loc_spn", TASK, "L", None, [], [], Request.loc_spn),
     61: Call("try_spn", TASK, "L", None, [], [HELD_BY_ANY], Request.loc_spn),
     62: Call("unl_spn", LOCKED_TASK, "L", None, [], [NOT_HELD_HERE], lambda it: it.processor.unlock()),
+    64: Call("get_tim", TASK, "", None, [], [], lambda it: (E_OK, it.board.clock + it.board.now)),
+    65: Call("set_tim", TASK, "", None, [], [], Request.set_tim),
+    66: Call("sns_ctx", ANYWHERE, "", None, [], [], lambda it: (int(it.caller is None),)),
+    67: Call("sns_loc", ANYWHERE, "", None, [], [], lambda it: (int(it.processor.locked),)),
+    68: Call("sns_dsp", ANYWHERE, "", None, [], [], lambda it: (int(it.processor.disabled),)),
+    69: Call("sns_dpn", ANYWHERE, "", None, [], [], lambda it: (int(it.processor.is_held()),)),
+    70: Call("frsm_tsk", TASK, "T", None, [], [NOT_SUSPENDED], Request.rsm_tsk),
+    71: Call("mget_tid", TASK, "", None, [BAD_FIRST], [], Request.mget_tid),
+    72: Call("mrot_rdq", TASK, "", None, [BAD_TURN, BAD_PROCESSOR], [], Request.mrot_rdq),
+    73: Call("ref_tsk", TASK, "T0", None, [OF_NINE], [], Request.ref_tsk),
+    74: Call("ref_sem", TASK, "S", None, [OF_TWO], [], Request.ref_sem),
+    75: Call("ref_flg", TASK, "F", None, [OF_TWO], [], Request.ref_flg),
+    76: Call("ref_dtq", TASK, "Q", None, [OF_THREE], [], Request.ref_dtq),
+    112: Call("iget_pid", HANDLER, "", None, [], [], lambda it: (E_OK, it.processor.number)),
 }

@@ -21,6 +21,7 @@ of_doc() {
                 waiting) place=Waiting ;;
                 "on task") place=OnTask ;;
                 handler) place=Handler ;;
+                anywhere) place=Anywhere ;;
             esac
             words=$(tr -d ' ' <<< "$arguments")
             count=0

@@ -87,7 +87,8 @@ class Texts:
 
     def configuration(self):
         processors = self.among(1, 1, 2, 3, 8)
-        lines = [f"BOARD({processors}, 0x{self.among(1, 1, 1, 2, 16, 256):x}0000);"]
+        lines = [self.among("", "", "", "PROFILE(STANDARD);", "PROFILE (STANDARD) ;")]
+        lines.append(f"BOARD({processors}, 0x{self.among(1, 1, 1, 2, 16, 256):x}0000);")
         for _ in range(self.random.randrange(12)):
             line = self.object()
             if self.often(.4):

@@ -1,7 +1,9 @@
 use super::configs::{flag, queue, semaphore, setup};
 use brd_base::NoMemory;
 use brd_config::{FlagConfig, QueueConfig, SemaphoreConfig, SpinLockConfig};
-use brd_kernel::{Call, Handler, Kernel, LineSetup, Marks, Reply, Spin, Standing, TaskState};
+use brd_kernel::{
+    Call, Handler, Kernel, LineSetup, Marks, Reply, Sensed, Spin, Standing, TaskState,
+};
 use brd_tasks::are_setups;
 use std::alloc::Global;
 
@@ -24,7 +26,17 @@ fn of_four(
         return Err(NoMemory);
     }
     let locks = [SpinLockConfig { id: 1 }, SpinLockConfig { id: 255 }];
-    let mut kernel = Kernel::new(alloc, 2, &setups, &[], semaphores, flags, queues, &locks)?;
+    let mut kernel = Kernel::new(
+        alloc,
+        true,
+        2,
+        &setups,
+        &[],
+        semaphores,
+        flags,
+        queues,
+        &locks,
+    )?;
     for id in started {
         kernel.start(*id);
     }
@@ -207,6 +219,9 @@ const REFUSALS: &[(Call, Reply)] = &[
     (Call::SusTsk(300), ID),
     (Call::SusTsk(9), NOEXS),
     (Call::SusTsk(4), OBJ),
+    (Call::RefTsk(300, 9), ID),
+    (Call::RefTsk(9, 9), PAR),
+    (Call::RefTsk(9, 8), NOEXS),
     (Call::RsmTsk(0), ID),
     (Call::RsmTsk(9), NOEXS),
     (Call::RsmTsk(1), OBJ),
@@ -246,6 +261,12 @@ const REFUSALS_OF_PROCESSORS: &[(Call, Reply)] = &[
     (Call::IrotRdq(0), PAR),
     (Call::IrotRdq(17), PAR),
     (Call::IrotRdq(0x101), PAR),
+    (Call::MgetTid(0), PAR),
+    (Call::MgetTid(3), PAR),
+    (Call::MgetTid(0x101), PAR),
+    (Call::MrotRdq(17, 1), PAR),
+    (Call::MrotRdq(1, 3), PAR),
+    (Call::MrotRdq(1, 0x101), PAR),
 ];
 
 /// Task 2 has a request queued. Whether the calls are refused then.
@@ -353,7 +374,7 @@ fn with_lines(alloc: Global, in_turn: bool) -> Result<Kernel, NoMemory> {
             lines[n].handler.cpu = 1 + n as u8 % 8;
         }
     }
-    Kernel::new(alloc, 8, &[], &lines, &[], &[], &[], &[])
+    Kernel::new(alloc, false, 8, &[], &lines, &[], &[], &[], &[])
 }
 
 /// Whether a processor accepts the interrupt of a line, and no other until its handler has ended.
@@ -458,6 +479,15 @@ const REFUSALS_OF_OBJECTS: &[(Call, Reply)] = &[
     (Call::TrcvDtq(2, BAD), PAR),
     (Call::TrcvDtq(3, POLL), NOEXS),
     (Call::TrcvDtq(2, POLL), TMOUT),
+    (Call::RefSem(0, 2), ID),
+    (Call::RefSem(3, 2), PAR),
+    (Call::RefSem(3, 1), NOEXS),
+    (Call::RefFlg(256, 2), ID),
+    (Call::RefFlg(3, 2), PAR),
+    (Call::RefFlg(3, 1), NOEXS),
+    (Call::RefDtq(0, 3), ID),
+    (Call::RefDtq(3, 3), PAR),
+    (Call::RefDtq(3, 2), NOEXS),
 ];
 
 /// Task 3 waits for a bit of flag 1. Whether the calls are refused then.
@@ -477,11 +507,20 @@ const CALLS_OF_OBJECTS: &[Served] = &[
     // Task 1 takes the one, and waits for the next; task 3 returns it.
     (1, Call::TwaiSem(1, FOREVER), OK, 0),
     (1, Call::TwaiSem(1, 5), Reply::Silent, 1),
+    (2, Call::RefSem(1, 0), Reply::Answer(0, Some(1)), 0),
+    (2, Call::RefSem(1, 1), Reply::Answer(0, Some(0)), 0),
+    (2, Call::RefTsk(1, 0), Reply::Answer(0, Some(4)), 0),
+    (2, Call::RefTsk(1, 3), Reply::Answer(0, Some(4)), 0),
+    (2, Call::RefTsk(1, 4), Reply::Answer(0, Some(1)), 0),
+    (2, Call::RefTsk(1, 5), Reply::Answer(0, Some(5)), 0),
     (2, Call::SigSem(1), OK, 1),
     (2, Call::SigSem(1), OK, 0),
     // Flag 2 clears itself; flag 1 keeps its pattern.
     (1, Call::TwaiFlg(2, 6, 0, FOREVER), Reply::Silent, 1),
     (2, Call::SetFlg(2, 2), OK, 0),
+    (2, Call::RefFlg(2, 0), Reply::Answer(0, Some(1)), 0),
+    (2, Call::RefFlg(2, 1), Reply::Answer(0, Some(2)), 0),
+    (2, Call::RefTsk(1, 5), Reply::Answer(0, Some(FOREVER)), 0),
     (2, Call::SetFlg(2, 4), OK, 1),
     (2, Call::TwaiFlg(2, 6, 1, POLL), TMOUT, 0),
     (
@@ -500,6 +539,9 @@ const CALLS_OF_OBJECTS: &[Served] = &[
     (1, Call::TsndDtq(2, 11, POLL), OK, 0),
     (1, Call::FsndDtq(2, 12), OK, 0),
     (1, Call::TsndDtq(2, 13, FOREVER), Reply::Silent, 1),
+    (2, Call::RefDtq(2, 0), Reply::Answer(0, Some(1)), 0),
+    (2, Call::RefDtq(2, 1), Reply::Answer(0, Some(0)), 0),
+    (2, Call::RefDtq(2, 2), Reply::Answer(0, Some(2)), 0),
     (2, Call::TrcvDtq(2, POLL), Reply::Answer(0, Some(11)), 1),
     (2, Call::TrcvDtq(2, POLL), Reply::Answer(0, Some(12)), 0),
     (2, Call::TrcvDtq(2, POLL), Reply::Answer(0, Some(13)), 0),
@@ -517,6 +559,18 @@ const CALLS: &[Served] = &[
     (1, Call::GetTid, Reply::Answer(0, Some(1)), 0),
     (2, Call::GetPid, Reply::Answer(0, Some(2)), 0),
     (2, Call::GetPri(0), Reply::Answer(0, Some(5)), 0),
+    (1, Call::GetTim, Reply::Answer(0, Some(0)), 0),
+    (1, Call::SetTim(FOREVER), OK, 0),
+    (2, Call::GetTim, Reply::Answer(0, Some(FOREVER)), 0),
+    (1, Call::Sns(Sensed::Context), OK, 0),
+    (1, Call::Sns(Sensed::Pending), OK, 0),
+    (1, Call::MgetTid(2), Reply::Answer(0, Some(3)), 0),
+    (2, Call::MrotRdq(2, 1), OK, 0),
+    (1, Call::RefTsk(0, 0), Reply::Answer(0, Some(1)), 0),
+    (1, Call::RefTsk(3, 0), Reply::Answer(0, Some(1)), 0),
+    (1, Call::RefTsk(2, 0), Reply::Answer(0, Some(2)), 0),
+    (1, Call::RefTsk(2, 1), Reply::Answer(0, Some(3)), 0),
+    (1, Call::RefTsk(4, 0), Reply::Answer(0, Some(16)), 0),
     // Task 4 starts, and comes first by a higher priority.
     (1, Call::ActTsk(4), OK, 0),
     (1, Call::ActTsk(4), OK, 0),

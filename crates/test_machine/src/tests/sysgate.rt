@@ -1,6 +1,6 @@
 use brd_exec::Context;
 use brd_isa::Register;
-use brd_kernel::{Call, Ercd, Reply};
+use brd_kernel::{Call, Ercd, Reply, Sensed};
 use brd_sysgate::*;
 
 /// A context with this number in $v0 and these arguments in $a0 to $a3.
@@ -14,14 +14,14 @@ fn asks(number: u32, a0: u32, a1: u32) -> Context {
 }
 
 /// A task in its ordinary state.
-const TASK: Caller = Caller::Task {
+const TASK: Agent = Agent::Task {
     id: 7,
     locked: false,
     disabled: false,
     holding: false,
 };
 
-const LOCKED: Caller = Caller::Task {
+const LOCKED: Agent = Agent::Task {
     id: 7,
     locked: true,
     disabled: false,
@@ -29,14 +29,14 @@ const LOCKED: Caller = Caller::Task {
 };
 
 /// A task whose processor holds a spin lock, and so is CPU-locked.
-const HOLDING: Caller = Caller::Task {
+const HOLDING: Agent = Agent::Task {
     id: 7,
     locked: true,
     disabled: false,
     holding: true,
 };
 
-const DISABLED: Caller = Caller::Task {
+const DISABLED: Agent = Agent::Task {
     id: 7,
     locked: false,
     disabled: true,
@@ -56,6 +56,8 @@ const NOT_HOLDING: Places = (true, true, false, true, false);
 const WAITS: Places = (true, false, false, false, false);
 
 const HANDLERS: Places = (false, false, false, false, true);
+
+const ANYWHERE: Places = (true, true, true, true, true);
 
 /// A call by its name and its arguments, with zeros after them.
 type Named = (&'static str, [u32; 4]);
@@ -122,6 +124,32 @@ const NUMBERS: &[(u32, Places, Named)] = &[
     (62, ALSO_LOCKED, ("unl_spn", [11, 0, 0, 0])),
 ];
 
+/// The same of those of the profile.
+const PROFILE_NUMBERS: &[(u32, Places, Named)] = &[
+    (64, TASKS, ("get_tim", [0, 0, 0, 0])),
+    (65, TASKS, ("set_tim", [11, 0, 0, 0])),
+    (66, ANYWHERE, ("sns_ctx", [0, 0, 0, 0])),
+    (67, ANYWHERE, ("sns_loc", [0, 0, 0, 0])),
+    (68, ANYWHERE, ("sns_dsp", [0, 0, 0, 0])),
+    (69, ANYWHERE, ("sns_dpn", [0, 0, 0, 0])),
+    (70, TASKS, ("rsm_tsk", [11, 0, 0, 0])),
+    (71, TASKS, ("mget_tid", [11, 0, 0, 0])),
+    (72, TASKS, ("mrot_rdq", [11, 22, 0, 0])),
+    (73, TASKS, ("ref_tsk", [11, 22, 0, 0])),
+    (74, TASKS, ("ref_sem", [11, 22, 0, 0])),
+    (75, TASKS, ("ref_flg", [11, 22, 0, 0])),
+    (76, TASKS, ("ref_dtq", [11, 22, 0, 0])),
+    (112, HANDLERS, ("get_pid", [0, 0, 0, 0])),
+];
+
+/// An agent of a board with the profile.
+fn with_profile(agent: Agent) -> Caller {
+    Caller {
+        agent,
+        standard: true,
+    }
+}
+
 /// The name of a call.
 fn name_of(call: Call) -> &'static str {
     match call {
@@ -165,6 +193,18 @@ fn name_of(call: Call) -> &'static str {
         Call::LocSpn(_) => "loc_spn",
         Call::TrySpn(_) => "try_spn",
         Call::UnlSpn(_) => "unl_spn",
+        Call::GetTim => "get_tim",
+        Call::SetTim(_) => "set_tim",
+        Call::Sns(Sensed::Context) => "sns_ctx",
+        Call::Sns(Sensed::Locked) => "sns_loc",
+        Call::Sns(Sensed::Disabled) => "sns_dsp",
+        Call::Sns(Sensed::Pending) => "sns_dpn",
+        Call::MgetTid(_) => "mget_tid",
+        Call::MrotRdq(_, _) => "mrot_rdq",
+        Call::RefTsk(_, _) => "ref_tsk",
+        Call::RefSem(_, _) => "ref_sem",
+        Call::RefFlg(_, _) => "ref_flg",
+        Call::RefDtq(_, _) => "ref_dtq",
     }
 }
 
@@ -190,6 +230,8 @@ fn arguments_of(call: Call) -> [u32; 4] {
         | Call::LocSpn(first)
         | Call::TrySpn(first)
         | Call::UnlSpn(first)
+        | Call::SetTim(first)
+        | Call::MgetTid(first)
         | Call::PutChr(first) => [first, 0, 0, 0],
         Call::ChgPri(first, second)
         | Call::MactTsk(first, second)
@@ -199,6 +241,11 @@ fn arguments_of(call: Call) -> [u32; 4] {
         | Call::SetFlg(first, second)
         | Call::ClrFlg(first, second)
         | Call::FsndDtq(first, second)
+        | Call::MrotRdq(first, second)
+        | Call::RefTsk(first, second)
+        | Call::RefSem(first, second)
+        | Call::RefFlg(first, second)
+        | Call::RefDtq(first, second)
         | Call::TrcvDtq(first, second) => [first, second, 0, 0],
         Call::TsndDtq(first, second, third) => [first, second, third, 0],
         Call::TwaiFlg(first, second, third, fourth) => [first, second, third, fourth],
@@ -206,23 +253,23 @@ fn arguments_of(call: Call) -> [u32; 4] {
     }
 }
 
-/// Whether a number is read from a caller as this call, where it may come from there, and else as E_CTX.
-fn is_read(number: u32, caller: Caller, may: bool, wanted: Named) -> bool {
-    match read(&asks(number, 11, 22), caller) {
+/// Whether a number is read from an agent as this call, where it may come from there, and else as E_CTX.
+fn is_read(number: u32, agent: Agent, may: bool, wanted: Named) -> bool {
+    match read(&asks(number, 11, 22), with_profile(agent)) {
         Ok(call) => may && (name_of(call), arguments_of(call)) == wanted,
         Err(fault) => !may && fault == Ercd::Ctx,
     }
 }
 
-/// The first number that isn't read as it should be from somewhere.
-fn first_wrong() -> Option<u32> {
-    for (number, (task, locked, holding, disabled, handler), call) in NUMBERS {
+/// The first of these numbers that isn't read as it should be from somewhere.
+fn first_wrong(numbers: &[(u32, Places, Named)]) -> Option<u32> {
+    for (number, (task, locked, holding, disabled, handler), call) in numbers {
         let number = *number;
         if !is_read(number, TASK, *task, *call)
             || !is_read(number, LOCKED, *locked, *call)
             || !is_read(number, HOLDING, *holding, *call)
             || !is_read(number, DISABLED, *disabled, *call)
-            || !is_read(number, Caller::Handler, *handler, *call)
+            || !is_read(number, Agent::Handler, *handler, *call)
         {
             return Some(number);
         }
@@ -233,30 +280,54 @@ fn first_wrong() -> Option<u32> {
 /// Each number with its call, and from where it may come.
 #[test]
 fn numbers(rt: HostRuntime) {
-    assert!(rt; first_wrong().is_none());
+    assert!(rt; first_wrong(NUMBERS).is_none() && first_wrong(PROFILE_NUMBERS).is_none());
 }
 
-const NO_NUMBERS: &[u32] = &[0, 42, 43, 44, 45, 46, 47, 59, 63, 99, 0x101, 0xffff_ffff];
+const NO_NUMBERS: &[u32] = &[
+    0,
+    42,
+    43,
+    44,
+    45,
+    46,
+    47,
+    59,
+    63,
+    77,
+    99,
+    115,
+    0x101,
+    0xffff_ffff,
+];
 
-/// Whether a number is no call's from a caller.
-fn is_none(number: u32, caller: Caller) -> bool {
-    match read(&asks(number, 1, 1), caller) {
+/// Whether a number is no call's from an agent, with the profile or without.
+fn is_none(number: u32, agent: Agent, standard: bool) -> bool {
+    match read(&asks(number, 1, 1), Caller { agent, standard }) {
         Ok(_) => false,
         Err(fault) => fault == Ercd::Rsfn,
     }
 }
 
-/// The first of `NO_NUMBERS` that isn't refused from somewhere.
+/// Whether a number is no call's, whoever asks for it.
+fn is_nowhere(number: u32, standard: bool) -> bool {
+    is_none(number, TASK, standard)
+        && is_none(number, LOCKED, standard)
+        && is_none(number, HOLDING, standard)
+        && is_none(number, DISABLED, standard)
+        && is_none(number, Agent::Handler, standard)
+}
+
+/// The first of `NO_NUMBERS` that isn't refused from somewhere, with the profile; and the first one of the profile's
+/// that isn't, without it.
 fn first_known() -> Option<u32> {
     for number in NO_NUMBERS {
-        let number = *number;
-        if !is_none(number, TASK)
-            || !is_none(number, LOCKED)
-            || !is_none(number, HOLDING)
-            || !is_none(number, DISABLED)
-            || !is_none(number, Caller::Handler)
-        {
-            return Some(number);
+        if !is_nowhere(*number, true) || !is_nowhere(*number, false) {
+            return Some(*number);
+        }
+    }
+    for (number, _, _) in PROFILE_NUMBERS {
+        if !is_nowhere(*number, false) {
+            return Some(*number);
         }
     }
     None
@@ -281,7 +352,9 @@ const OF_ONESELF: &[(u32, u32, bool)] = &[
 fn first_wrong_of_oneself() -> Option<usize> {
     for (n, (number, named, may)) in OF_ONESELF.iter().enumerate() {
         let context = asks(*number, *named, 1);
-        if read(&context, DISABLED).is_ok() != *may || read(&context, TASK).is_err() {
+        if read(&context, with_profile(DISABLED)).is_ok() != *may
+            || read(&context, with_profile(TASK)).is_err()
+        {
             return Some(n);
         }
     }
