@@ -31,12 +31,39 @@ typedef INT PRI;                        /* 1, the highest, to 16 */
 typedef UINT SIZE;
 typedef W TMO;                          /* a timeout in ticks, TMO_POL or TMO_FEVR */
 typedef UW RELTIM;                      /* ticks */
+typedef UW SYSTIM;                      /* the system time, in ticks */
 typedef UW FLGPTN;                      /* the bits of an event flag */
 typedef INT VP_INT;                     /* an integer, or a pointer that was made one: an argument, a datum */
 typedef INT ER_ID;                      /* an error, or an ID */
 typedef INT ER_UINT;                    /* an error, or a count */
 typedef INT ER_BOOL;                    /* an error, or TRUE or FALSE */
 typedef UINT INHNO;                     /* an interrupt line, 0 to 31 */
+
+/* What the ref_ calls of the profile tell. */
+typedef struct t_rtsk {
+    STAT tskstat;                       /* TTS_RUN .. */
+    PRI tskpri;                         /* the priority */
+    PRI tskbpri;                        /* the base priority */
+    STAT tskwait;                       /* what it waits for: TTW_SLP .., 0 where it doesn't wait */
+    ID wobjid;                          /* the object that it waits for */
+    TMO lefttmo;                        /* ticks that pass before the one that ends its wait */
+    UINT actcnt;                        /* queued requests to start it */
+    UINT wupcnt;                        /* queued wake-ups */
+    UINT suscnt;                        /* suspensions */
+} T_RTSK;
+typedef struct t_rsem {
+    ID wtskid;                          /* who waits first */
+    UINT semcnt;
+} T_RSEM;
+typedef struct t_rflg {
+    ID wtskid;
+    FLGPTN flgptn;
+} T_RFLG;
+typedef struct t_rdtq {
+    ID stskid;                          /* who waits first to send */
+    ID rtskid;                          /* and to receive */
+    UINT sdtqcnt;                       /* how many data are stored */
+} T_RDTQ;
 
 #ifndef NULL
 #define NULL ((void *)0)
@@ -89,6 +116,19 @@ typedef UINT INHNO;                     /* an interrupt line, 0 to 31 */
 #ifndef __ASSEMBLER__
 #define MERCD(ercd) ((ER)(B)(ercd))     /* the main code of an error; there are no sub-codes here */
 #define SERCD(ercd) ((ER)((ercd) >> 8))
+
+#define TTS_RUN 0x01u                    /* ref_tsk: the state of a task */
+#define TTS_RDY 0x02u
+#define TTS_WAI 0x04u
+#define TTS_SUS 0x08u
+#define TTS_WAS 0x0cu
+#define TTS_DMT 0x10u
+#define TTW_SLP 0x01u                    /* and what it waits for */
+#define TTW_DLY 0x02u
+#define TTW_SEM 0x04u
+#define TTW_FLG 0x08u
+#define TTW_SDTQ 0x10u
+#define TTW_RDTQ 0x20u
 
 #define TWF_ANDW 0u                     /* wai_flg: all of the bits, or any */
 #define TWF_ORW 1u

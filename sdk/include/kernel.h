@@ -121,6 +121,31 @@ KERNEL_CALL ER loc_spn(ID spnid) { return kernel_1(60, spnid).first; }
 KERNEL_CALL ER try_spn(ID spnid) { return kernel_1(61, spnid).first; }
 KERNEL_CALL ER unl_spn(ID spnid) { return kernel_1(62, spnid).first; }
 
+/* The profile: each is E_RSFN where the configuration doesn't begin with PROFILE(STANDARD);. */
+KERNEL_CALL ER get_tim(SYSTIM *p_systim) { return kernel_second(kernel_0(64), p_systim); }
+KERNEL_CALL ER set_tim(SYSTIM *p_systim) { return kernel_1(65, *p_systim).first; }
+KERNEL_CALL BOOL sns_ctx(void) { return kernel_0(66).first; }
+KERNEL_CALL BOOL sns_loc(void) { return kernel_0(67).first; }
+KERNEL_CALL BOOL sns_dsp(void) { return kernel_0(68).first; }
+KERNEL_CALL BOOL sns_dpn(void) { return kernel_0(69).first; }
+KERNEL_CALL ER frsm_tsk(ID tskid) { return kernel_1(70, tskid).first; }
+KERNEL_CALL ER mget_tid(ID *p_tskid, ID prcid) { return kernel_second(kernel_1(71, prcid), (UINT *)p_tskid); }
+KERNEL_CALL ER mrot_rdq(PRI tskpri, ID prcid) { return kernel_2(72, tskpri, prcid).first; }
+
+/* A word a call: so a structure is of one state only where nobody changes it meanwhile. */
+KERNEL_CALL ER kernel_words(UINT number, ID id, UINT *words, UINT count)
+{
+    ER error = E_OK;
+    for (UINT word = 0; word < count && error == E_OK; word++)
+        error = kernel_second(kernel_2(number, id, word), words + word);
+    return error;
+}
+
+KERNEL_CALL ER ref_tsk(ID tskid, T_RTSK *pk_rtsk) { return kernel_words(73, tskid, (UINT *)pk_rtsk, 9); }
+KERNEL_CALL ER ref_sem(ID semid, T_RSEM *pk_rsem) { return kernel_words(74, semid, (UINT *)pk_rsem, 2); }
+KERNEL_CALL ER ref_flg(ID flgid, T_RFLG *pk_rflg) { return kernel_words(75, flgid, (UINT *)pk_rflg, 2); }
+KERNEL_CALL ER ref_dtq(ID dtqid, T_RDTQ *pk_rdtq) { return kernel_words(76, dtqid, (UINT *)pk_rdtq, 3); }
+
 /* The board's own: a byte to the console, and the end. */
 KERNEL_CALL ER put_chr(char byte) { return kernel_1(40, (UB)byte).first; }
 KERNEL_CALL ER ext_ker(void) { return kernel_0(41).first; }
@@ -136,6 +161,8 @@ KERNEL_CALL ER ifsnd_dtq(ID dtqid, VP_INT data) { return kernel_2(54, dtqid, dat
 KERNEL_CALL ER irot_rdq(PRI tskpri) { return kernel_1(55, tskpri).first; }
 KERNEL_CALL ER iget_tid(ID *p_tskid) { return kernel_second(kernel_0(56), (UINT *)p_tskid); }
 KERNEL_CALL ER imact_tsk(ID tskid, ID prcid) { return kernel_2(57, tskid, prcid).first; }
+KERNEL_CALL ER isig_tim(void) { return kernel_0(115).first; }     /* always E_RSFN: ticks come from outside */
+KERNEL_CALL ER iget_pid(ID *p_prcid) { return kernel_second(kernel_0(112), (UINT *)p_prcid); }
 KERNEL_CALL ER ret_int(void) { return kernel_0(58).first; }
 
 #endif
