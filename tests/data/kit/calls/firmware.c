@@ -1,4 +1,5 @@
-/* Each function of kernel.h at least once. What each has to answer was worked out from docs/KERNEL.md. */
+/* Each function of kernel.h that every board has, at least once. What each has to answer was worked out from
+   docs/KERNEL.md. */
 #include "board.h"
 #include "ids.h"
 

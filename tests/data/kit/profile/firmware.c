@@ -1,0 +1,140 @@
+/* Each function of kernel.h that is there with the profile alone, at least once. What each has to answer was worked out
+   from docs/KERNEL.md. */
+#include "board.h"
+#include "ids.h"
+
+#define SAY(call) printf("%s = %d\n", #call, (INT)(call))
+#define SAY_RESULT(call)                                                                                               \
+    do {                                                                                                               \
+        result = 0;                                                                                                    \
+        ER answer = call;                                                                                              \
+        printf("%s = %d, %d\n", #call, answer, (INT)result);                                                           \
+    } while (0)
+
+static struct {
+    const char *call;
+    INT answer;
+} handled[8];
+static INT calls;
+
+#define HANDLED(it) (handled[calls].call = #it, handled[calls].answer = (INT)(it), calls++)
+
+void handler(INHNO line)
+{
+    ID processor = 99;
+    SYSTIM time = 99;
+    (void)line;
+    HANDLED(iget_pid(&processor));
+    HANDLED(processor);
+    HANDLED(sns_ctx());
+    HANDLED(sns_loc());
+    HANDLED(sns_dpn());
+    HANDLED(get_tim(&time));
+    HANDLED(isig_tim());
+    HANDLED(iwup_tsk(MAIN));
+}
+
+void waiter(VP_INT unused)
+{
+    (void)unused;
+    twai_sem(ONE, 9);
+}
+
+void other(VP_INT unused)
+{
+    (void)unused;
+    for (;;)
+        ;
+}
+
+static void times(void)
+{
+    SYSTIM result;
+    SYSTIM set = 1000;
+    SAY_RESULT(get_tim(&result));
+    SAY(set_tim(&set));
+    SAY_RESULT(get_tim(&result));
+}
+
+static void marks(void)
+{
+    SYSTIM time;
+    BOOL locked;
+    ER refused;
+    SAY(sns_ctx());
+    SAY(sns_loc());
+    SAY(sns_dsp());
+    SAY(sns_dpn());
+    dis_dsp();
+    SAY(sns_dsp());
+    SAY(sns_dpn());
+    ena_dsp();
+    loc_cpu();
+    locked = sns_loc();
+    refused = get_tim(&time);
+    unl_cpu();
+    SAY(locked);
+    SAY(refused);
+}
+
+static void processors(void)
+{
+    ID result;
+    SAY_RESULT(mget_tid(&result, 2));
+    SAY_RESULT(mget_tid(&result, 3));
+    SAY(mrot_rdq(5, 2));
+    SAY(mrot_rdq(TPRI_SELF, 2));
+    SAY(mrot_rdq(17, 2));
+    SAY(mrot_rdq(5, 3));
+}
+
+static void task(ID id)
+{
+    T_RTSK it;
+    ER answer = ref_tsk(id, &it);
+    printf("task %d: %d; state %d, priority %d of %d, ", id, answer, it.tskstat, it.tskpri, it.tskbpri);
+    printf("waits for %d %d, %d more; %d %d %d\n", it.tskwait, it.wobjid, it.lefttmo, it.actcnt, it.wupcnt, it.suscnt);
+}
+
+static void references(void)
+{
+    T_RTSK nobody;
+    T_RSEM semaphore;
+    T_RFLG flag;
+    T_RDTQ queue;
+    wup_tsk(TSK_SELF);
+    task(TSK_SELF);
+    can_wup(TSK_SELF);
+    act_tsk(WAITER);
+    sus_tsk(WAITER);
+    task(WAITER);
+    SAY(frsm_tsk(WAITER));
+    SAY(frsm_tsk(WAITER));
+    task(WAITER);
+    can_act(WAITER);
+    task(OTHER);
+    SAY(ref_tsk(99, &nobody));
+    SAY(ref_sem(ONE, &semaphore));
+    printf("%d waits, %d are there\n", semaphore.wtskid, semaphore.semcnt);
+    SAY(ref_flg(ONE, &flag));
+    printf("%d waits, the bits are %d\n", flag.wtskid, flag.flgptn);
+    snd_dtq(ONE, 11);
+    SAY(ref_dtq(ONE, &queue));
+    printf("%d and %d wait, %d are there\n", queue.stskid, queue.rtskid, queue.sdtqcnt);
+}
+
+void all_calls(VP_INT unused)
+{
+    SYSTIM result;
+    (void)unused;
+    times();
+    marks();
+    processors();
+    references();
+    slp_tsk();
+    for (INT i = 0; i < calls; i++)
+        printf("in the handler: %s = %d\n", handled[i].call, handled[i].answer);
+    dly_tsk(1);
+    SAY_RESULT(get_tim(&result));
+    ext_ker();
+}
