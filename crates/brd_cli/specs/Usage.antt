@@ -133,7 +133,8 @@ checks =
 abbrev pub searching : List Rule
 searching =
     flag (codes "shortest") ∷ option (codes "SHARD") (codes "shard") ∷ count (codes "MIB") (codes "remember")
-    ∷ count (codes "PLACES") (codes "places") ∷ option (codes "OUT") (codes "out") ∷ data_option ∷ []
+    ∷ count (codes "PLACES") (codes "places") ∷ flag (codes "livelock")
+    ∷ option (codes "OUT") (codes "out") ∷ data_option ∷ []
 
 -- `explore` and `shrink` take their options before, between or after their files
 abbrev pub explore : App

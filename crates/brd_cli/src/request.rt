@@ -297,6 +297,7 @@ fn search_options_of<'a>(arguments: &ArgMatches<'a>) -> SearchOptions<'a>
         shard: text_of(arguments, "SHARD"),
         remember: number_or(arguments, "MIB", 0),
         places: number_or(arguments, "PLACES", 0),
+        livelock: flag_of(arguments, "livelock"),
     }
 }
 

@@ -560,6 +560,11 @@ fn with_search<'a>(alloc: Global, command: Command<'a>) -> Result<Command<'a>, N
             "places",
             "Sets no bound on events and preemptions; goes through so many places at most",
         ))?
+        .arg(flag(
+            alloc,
+            "livelock",
+            "With --places: fails where no schedule comes to an end any more",
+        ))?
         .arg(option(
             alloc,
             "OUT",

@@ -14,4 +14,4 @@ pub use bounds::{Bounds, did_nothing};
 pub use search::{Counts, Found, Nobody, Watch, find};
 pub use shard::{Shard, find_in_shard};
 pub use shrinking::{fails, shrink};
-pub use wanted::{Failure, Wanted, is_at_rest};
+pub use wanted::{Failure, Wanted, is_at_rest, is_end, some_are_due};

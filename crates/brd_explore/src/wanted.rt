@@ -67,6 +67,8 @@ pub enum Failure {
     },
     /// At the end the board is on.
     On,
+    /// There is an end.
+    Ended,
     /// The instruction at an address is the next one of who executes on some processor.
     At {
         /// The address.
@@ -262,7 +264,7 @@ impl Failure {
                 most,
             } => Ok(!is_between(*least, *most, word_at(board, *address))),
             Failure::At { address } => Ok(some_are_at(board, *address)),
-            Failure::Word { .. } | Failure::On => Ok(false),
+            Failure::Word { .. } | Failure::On | Failure::Ended => Ok(false),
         }
     }
 
@@ -277,6 +279,7 @@ impl Failure {
             Failure::Console(text) => !board.console().starts_with(text.as_slice()),
             Failure::Word { address, value } => !is_value(*value, word_at(board, *address)),
             Failure::On => !board.is_off(),
+            Failure::Ended => true,
         }
     }
 }
@@ -338,7 +341,7 @@ fn some_wait(board: &Board) -> bool
 }
 
 /// Whether some wait ends by a tick.
-fn some_are_due(board: &Board) -> bool
+pub fn some_are_due(board: &Board) -> bool
     ensures { result ≡ some_below 256 (λ id. has_due (task_of board.now id)) }
 {
     for id in 0..256u16 {
@@ -382,7 +385,7 @@ pub fn is_at_rest(board: &Board) -> Result<bool, NoMemory>
 
 /// Whether a schedule that has led to a board, with so much left of the bounds, has come to an end.
 #[tactic(auto, unfolding(crate::specs::Failures::is_end))]
-pub(crate) fn is_end(board: &Board, left: Bounds) -> Result<bool, NoMemory>
+pub fn is_end(board: &Board, left: Bounds) -> Result<bool, NoMemory>
     ensures { IfOk result (λ ends. ends ≡ is_end board.now left) }
 {
     if board.is_off() {

@@ -249,6 +249,7 @@ now-alike by b c (failure.Word address value) it guarded = refl
 now-alike by b c (failure.Outside address least most) it guarded =
     ap (λ word. not (is_between least most word)) (word-alike by b c address it guarded)
 now-alike by b c failure.On it guarded = refl
+now-alike by b c failure.Ended it guarded = refl
 now-alike by b c (failure.At address) it guarded = absurd guarded
 
 last-alike : (by : Sharing) (b c : BoardState) (f : Failure) → Alike by b c → IsGuarded by f → fails_at_last c f ≡ fails_at_last b f
@@ -261,6 +262,7 @@ last-alike by b c (failure.Word address value) it guarded =
 last-alike by b c (failure.Outside address least most) it guarded = refl
 last-alike by b c (failure.At address) it guarded = refl
 last-alike by b c failure.On it guarded = ap not it.off
+last-alike by b c failure.Ended it guarded = refl
 
 any-same : {X : Type 0} (P : X → Type 0) (one two : X → Bool) (xs : List X) → All P xs → ((x : X) → P x → two x ≡ one x) →
     list_any two xs ≡ list_any one xs

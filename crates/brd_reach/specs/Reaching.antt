@@ -59,6 +59,7 @@ IsGuarded by (failure.Console text) = Unit {0}
 IsGuarded by (failure.Word address value) = IsSharedWord by address
 IsGuarded by (failure.Outside address least most) = IsSharedWord by address
 IsGuarded by failure.On = Unit {0}
+IsGuarded by failure.Ended = Unit {0}
 IsGuarded by (failure.At address) = ⊥
 
 abbrev pub Guards : Sharing → Wanted → Type 0
@@ -87,7 +88,7 @@ ClosedLaw =
 -- every board are, fails, however many events and preemptions it has; or the events lead to a board that fails, by now
 -- or as the last one.
 abbrev pub ReachedSo : BoardState → Left → List Event → Wanted → Reached → Type 0
-ReachedSo b left among wanted (reached.Holds places) =
+ReachedSo b left among wanted (reached.Holds held) =
     IsLinkSet b.links → (events preemptions : ℕ) → NoneFails wanted among (start b (bounds_of left events preemptions))
 ReachedSo b left among wanted (reached.Fails events) = fails_after wanted (after b events) ≡ true
 ReachedSo b left among wanted (reached.Unknown why) = Unit {0}

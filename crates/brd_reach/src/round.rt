@@ -6,6 +6,7 @@ ghost use Rattle.brd_reach.specs.Rounds.{IsMore, RoundSo};
 
 use crate::unknown::Unknown;
 use crate::visit::{Tried, visit};
+use crate::ways::Ways;
 use brd_base::NoMemory;
 use brd_blocks::Sharing;
 use brd_board::Event;
@@ -29,6 +30,7 @@ pub(crate) enum Round {
 /// Visits places, and those to which events lead from them, until all have been visited or one fails; at most so many.
 pub(crate) fn visit_all(
     places: &mut Places,
+    ways: &mut Ways,
     sharing: &Sharing,
     words: &[u32],
     among: &[Event],
@@ -42,7 +44,7 @@ pub(crate) fn visit_all(
         if at >= places.len() {
             return Ok(Round::Holds);
         }
-        match visit(places, at, sharing, words, among, wanted)? {
+        match visit(places, ways, at, sharing, words, among, wanted)? {
             Tried::Done => {}
             Tried::Fails => return Ok(Round::Fails(at)),
             Tried::Strays(cpu, count) => return Ok(Round::Strays(at, cpu, count)),

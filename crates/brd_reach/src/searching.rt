@@ -4,8 +4,10 @@ ghost use Rattle.std.specs.Prelude.{◌≡◌, IfOk, IfSome, List as ListOf, tru
 ghost use Rattle.brd_blocks.specs.Owning.{StayShared, sharing_of};
 ghost use Rattle.brd_reach.specs.Reaching.{Guards, IsGuarded, IsSharedWord, ReachedSo};
 
+use crate::held::{Held, held};
 use crate::round::{Round, visit_all};
 use crate::unknown::Unknown;
+use crate::ways::Ways;
 use brd_base::{BASE, List, NoMemory};
 use brd_blocks::{Owner, Sharing};
 use brd_board::{Board, Event};
@@ -16,8 +18,8 @@ use std::alloc::Global;
 /// What a search through all places came to.
 #[derive(Drop)]
 pub enum Reached {
-    /// No schedule fails. So many places there are.
-    Holds(usize),
+    /// No schedule fails.
+    Holds(Held),
     /// These events lead to a board that fails.
     Fails(List<Event>),
     /// It isn't known.
@@ -49,8 +51,10 @@ pub fn reach(
     for _ in 0..MOST_ROUNDS {
         let words = owned_words(alloc, &sharing, size)?;
         let mut places = Places::new(alloc, start, left)?;
-        match visit_all(&mut places, &sharing, words.as_slice(), among, wanted, most)? {
-            Round::Holds => return Ok(Reached::Holds(places.len())),
+        let mut ways = Ways::new(alloc);
+        let words = words.as_slice();
+        match visit_all(&mut places, &mut ways, &sharing, words, among, wanted, most)? {
+            Round::Holds => return Ok(Reached::Holds(held(alloc, &places, &ways)?)),
             Round::Fails(at) => return Ok(Reached::Fails(places.path(at)?)),
             Round::Strays(at, cpu, count) => {
                 let board = places.board(at)?;
@@ -102,7 +106,8 @@ fn guard(sharing: &mut Sharing, failure: &Failure) -> bool
             guard_word(sharing, *address);
             true
         }
-        Failure::Exception | Failure::Deadlock | Failure::Console(_) | Failure::On => true,
+        Failure::Exception | Failure::Deadlock | Failure::Console(_) => true,
+        Failure::On | Failure::Ended => true,
         Failure::At { .. } => false,
     }
 }

@@ -10,7 +10,9 @@ ghost use Rattle.brd_reach.specs.Reaching.{bounds_of};
 ghost use Rattle.brd_reach.specs.Rounds.{IsAt, IsMore, IsPaid, IsPlace, TriedSo, VisitedSo, paid};
 
 use crate::block::{Block, go};
+use crate::stop::stop_at;
 use crate::unknown::Unknown;
+use crate::ways::Ways;
 use brd_base::NoMemory;
 use brd_blocks::Sharing;
 use brd_board::{Board, Event};
@@ -34,6 +36,7 @@ pub(crate) enum Tried {
 /// addresses of the words by whose values places are told from each other at first sight.
 pub(crate) fn visit(
     places: &mut Places,
+    ways: &mut Ways,
     at: usize,
     sharing: &Sharing,
     words: &[u32],
@@ -49,8 +52,9 @@ pub(crate) fn visit(
     if wanted.fails_at(&board, bounds_of(left))? {
         return Ok(Tried::Fails);
     }
+    ways.come(stop_at(&board, left)?)?;
     for event in among {
-        match try_event(places, at, &board, left, sharing, words, *event)? {
+        match try_event(places, ways, at, &board, left, sharing, words, *event)? {
             Tried::Done => {}
             Tried::Fails => return Ok(Tried::Fails),
             Tried::Strays(cpu, count) => return Ok(Tried::Strays(cpu, count)),
@@ -61,7 +65,7 @@ pub(crate) fn visit(
 }
 
 /// The bounds with so much left, and nothing else.
-fn bounds_of(left: Left) -> Bounds
+pub(crate) fn bounds_of(left: Left) -> Bounds
     ensures { result ≡ bounds_of left 0 0 }
 {
     Bounds {
@@ -76,6 +80,7 @@ fn bounds_of(left: Left) -> Bounds
 /// Tries an event at the place of an index: this board, where so much is left.
 fn try_event(
     places: &mut Places,
+    ways: &mut Ways,
     at: usize,
     board: &Board,
     left: Left,
@@ -88,15 +93,16 @@ fn try_event(
         IfOk result (TriedSo (sharing_of sharing.now) among places.new left board.now event) }
 {
     match event {
-        Event::Step(cpu) => try_step(places, at, board, left, sharing, words, cpu),
-        Event::Tick => try_other(places, at, board, left, words, event),
-        Event::Raise(_) => try_other(places, at, board, left, words, event),
+        Event::Step(cpu) => try_step(places, ways, at, board, left, sharing, words, cpu),
+        Event::Tick => try_other(places, ways, at, board, left, words, event),
+        Event::Raise(_) => try_other(places, ways, at, board, left, words, event),
     }
 }
 
 /// Tries a step of a processor.
 fn try_step(
     places: &mut Places,
+    ways: &mut Ways,
     at: usize,
     board: &Board,
     left: Left,
@@ -115,7 +121,16 @@ fn try_step(
     match go(sharing, board, &mut last, cpu)? {
         Block::Stays => Ok(Tried::Done),
         Block::Leads(count) => {
-            note(places, at, words, Event::Step(cpu), count, &last, left)?;
+            note(
+                places,
+                ways,
+                at,
+                words,
+                Event::Step(cpu),
+                count,
+                &last,
+                left,
+            )?;
             Ok(Tried::Done)
         }
         Block::Strays(count) => Ok(Tried::Strays(cpu, count)),
@@ -126,6 +141,7 @@ fn try_step(
 /// Tries a tick, or a raise.
 fn try_other(
     places: &mut Places,
+    ways: &mut Ways,
     at: usize,
     board: &Board,
     left: Left,
@@ -140,7 +156,7 @@ fn try_other(
     };
     let mut last = board.try_copy()?;
     let _ = last.event_apart(event);
-    note(places, at, words, event, 1, &last, rest)?;
+    note(places, ways, at, words, event, 1, &last, rest)?;
     Ok(Tried::Done)
 }
 
@@ -172,9 +188,11 @@ fn paid(left: Left, event: Event) -> Option<Left>
     }
 }
 
-/// Adds a place, unless it is there: the board to which one event n times leads from the place of an index.
+/// Adds a place, unless it is there: the board to which one event n times leads from the place of an index. The way to it
+/// is noted.
 fn note(
     places: &mut Places,
+    ways: &mut Ways,
     at: usize,
     words: &[u32],
     event: Event,
@@ -187,9 +205,10 @@ fn note(
         board.now ≡ after place.board (replicate count event) → OnOk result (IsPlace places.new left board.now) }
 {
     let mark = places.mark_of(board, left, memory_of(board, words));
-    if places.find(board, left, mark)?.is_some() {
-        return Ok(());
+    if let Some(to) = places.find(board, left, mark)? {
+        return ways.add(at, to);
     }
+    ways.add(at, places.len())?;
     places.add(at, event, count, left, mark)
 }
 

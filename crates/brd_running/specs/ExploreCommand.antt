@@ -14,6 +14,7 @@ use Rattle.brd_inputs.specs.declared.inputs.Pair.{Pair}
 use Rattle.brd_inputs.specs.declared.schedule_fault.ScheduleFault.TheVariants.{TooLong}
 use Rattle.brd_journal.specs.Text.{text_of}
 use Rattle.brd_places.specs.declared.left.Left.{Left}
+use Rattle.brd_reach.specs.Endless.{NeverEnds, rest_of}
 use Rattle.brd_reach.specs.Reaching.{ReachedSo}
 use Rattle.brd_reach.specs.declared.searching.Reached.{Reached}
 use Rattle.brd_reach.specs.declared.searching.Reached.TheVariants as reached
@@ -54,10 +55,27 @@ pub record IsSearched (plan : Plan) (b : BoardState) (text : List ℕ) (journal 
 abbrev pub left_by : Bounds → Left
 left_by bounds = record { ticks = bounds.ticks; raises = bounds.raises; owed = bounds.owed }
 
--- What is told of a search for which events and preemptions have no bound: that none fails, and no journal; or that a
--- schedule fails, and its journal.
+-- from the board after events no schedule comes to an end, with the ticks and raises that they leave
+abbrev pub IsHopeless : Plan → BoardState → List Event → Type 0
+IsHopeless plan b events = NeverEnds (after b events) (rest_of (left_by plan.bounds) events) plan.among
+
+-- that is told, and the journal of the events
+pub record TellsHung (plan : Plan) (b : BoardState) (events : List Event) (text : List ℕ) (journal : Option (List ℕ)) : Type 0 where
+  pub hopeless : IsHopeless plan b events
+  pub tells : Begins (codes "fails ") text
+  pub saves : journal ≡ Some (text_of b.memory.order events)
+
+-- What is told where none fails: that, and no journal; or events, if it is looked for, that lead to a board from which
+-- none comes to an end.
+abbrev pub TellsHeld : Plan → BoardState → List ℕ → Option (List ℕ) → Type 0
+TellsHeld plan b text journal =
+    (Begins (codes "none ") text × (journal ≡ None))
+    ⊎ ((plan.livelock ≡ true) × (events : List Event) × TellsHung plan b events text journal)
+
+-- What is told of a search for which events and preemptions have no bound: that none fails; or that a schedule fails,
+-- and its journal.
 abbrev pub TellsAll : Plan → BoardState → Reached → List ℕ → Option (List ℕ) → Type 0
-TellsAll plan b (reached.Holds places) text journal = Begins (codes "none ") text × (journal ≡ None)
+TellsAll plan b (reached.Holds held) text journal = TellsHeld plan b text journal
 TellsAll plan b (reached.Fails events) text journal = Tells plan b (Some events) text journal
 TellsAll plan b (reached.Unknown why) text journal = ⊥
 

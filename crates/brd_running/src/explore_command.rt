@@ -1,9 +1,10 @@
 //! The command `explore`.
 
-ghost use Rattle.std.specs.Prelude.{◌≡◌, ◌++◌, codes, option_map, IfOk, IfSome, MatchResult, None, Some};
+ghost use Rattle.std.specs.Prelude.{◌≡◌, ◌++◌, codes, option_map, true, IfOk, IfSome, MatchResult, None, Some};
 ghost use Rattle.brd_running.specs.ExploreCommand.{ExploreFilesEnd, IsExplored, IsTold, KeepsFromSearching};
 ghost use Rattle.brd_running.specs.ExploreCommand.{Begins, KeepsFromExploring, Tells, failed};
 ghost use Rattle.brd_running.specs.ExploreCommand.{IsReached, IsUnknown, IsUntoldOfAll, left_by};
+ghost use Rattle.brd_running.specs.ExploreCommand.{IsHopeless, TellsHeld, TellsHung};
 ghost use Rattle.brd_running.specs.Saving.{IsOfJournal};
 ghost use Rattle.brd_search.specs.Shown.{shown};
 ghost use Rattle.brd_board.specs.Board.{BoardState};
@@ -16,10 +17,10 @@ use brd_inputs::{CommandFault, Files, Loaded, Pair, open_pair, read_board};
 use brd_mem::Symbol;
 use brd_places::Left;
 use brd_progress::Progress;
-use brd_reach::{Reached, Unknown, reach};
+use brd_reach::{Held, Reached, Unknown, never_ends, reach, rest_of};
 use brd_search::{
-    Plan, SearchFault, SearchOptions, plan_of, put_all_hold, put_found, put_none, search,
-    shown_events,
+    Extent, Plan, SearchFault, SearchOptions, plan_of, put_all_hold, put_found, put_hung, put_none,
+    search, shown_events,
 };
 use brd_threads::processors;
 use std::alloc::Global;
@@ -171,10 +172,96 @@ fn told_of_all(
         &plan.wanted,
         most,
     )? {
-        Reached::Holds(places) => Ok(told_hold(alloc, symbols, plan, places)?),
+        Reached::Holds(held) => told_held(alloc, board, symbols, plan, held),
         Reached::Fails(events) => told_found(alloc, board, symbols, plan, events.as_slice()),
         Reached::Unknown(why) => Err(CommandFault::Search(fault_of(why))),
     }
+}
+
+/// What is told where no schedule fails, however many events and preemptions it has: a board from which none comes to
+/// an end, if that is looked for and there is one.
+fn told_held(
+    alloc: Global,
+    board: &Board,
+    symbols: &[Symbol],
+    plan: &Plan,
+    held: Held,
+) -> Result<Told, CommandFault>
+    ensures { MatchResult result
+        (λ told. TellsHeld plan.now board.now told.text.items (option_map (λ text. text.items) told.journal))
+        IsUntoldOfAll }
+{
+    let extent = Extent {
+        places: held.places as u64,
+        ends: held.ends as u64,
+        hopeless: held.hopeless as u64,
+    };
+    if let Some(events) = held.first {
+        if plan.livelock {
+            return told_hung(alloc, board, symbols, plan, events.as_slice());
+        }
+    }
+    Ok(told_hold(alloc, symbols, plan, extent)?)
+}
+
+/// What is told of events that lead to a board from which no schedule comes to an end, and their journal.
+fn told_hung(
+    alloc: Global,
+    board: &Board,
+    symbols: &[Symbol],
+    plan: &Plan,
+    events: &[Event],
+) -> Result<Told, CommandFault>
+    ensures { MatchResult result
+        (λ told. TellsHung plan.now board.now events.now told.text.items (option_map (λ text. text.items) told.journal))
+        IsUntoldOfAll }
+{
+    if !is_hopeless(alloc, board, plan, events)? {
+        return Err(CommandFault::Search(SearchFault::Unlearned));
+    }
+    let text = text_hung(alloc, board, symbols, events)?;
+    match journal_text(alloc, board.order(), events) {
+        Ok(journal) => Ok(Told {
+            text,
+            journal: Some(journal),
+        }),
+        Err(fault) => Err(fault),
+    }
+}
+
+/// Whether it is found that no schedule comes to an end from the board after events.
+fn is_hopeless(
+    alloc: Global,
+    board: &Board,
+    plan: &Plan,
+    events: &[Event],
+) -> Result<bool, NoMemory>
+    ensures { IfOk result (λ hopeless. hopeless ≡ true → IsHopeless plan.now board.now events.now) }
+{
+    let mut last = board.try_copy()?;
+    last.play(events);
+    let left = rest_of(left_of(plan.bounds), events);
+    never_ends(
+        alloc,
+        &last,
+        left,
+        plan.among.as_slice(),
+        plan.places as usize,
+    )
+}
+
+/// A board from which no schedule comes to an end, in words.
+fn text_hung(
+    alloc: Global,
+    board: &Board,
+    symbols: &[Symbol],
+    events: &[Event],
+) -> Result<Vec<u8>, NoMemory>
+    ensures { IfOk result (λ text. Begins (codes "fails ") text.items) }
+{
+    let mut rest = Vec::new(alloc);
+    put_hung(alloc, symbols, board, events, &mut rest)?;
+    joined(alloc, FAILS, &rest)
 }
 
 /// What is left of ticks and raises, by bounds.
@@ -207,13 +294,13 @@ fn told_hold(
     alloc: Global,
     symbols: &[Symbol],
     plan: &Plan,
-    places: usize,
+    extent: Extent,
 ) -> Result<Told, NoMemory>
     ensures { IfOk result
         (λ told. Begins (codes "none ") told.text.items × (option_map (λ text. text.items) told.journal ≡ None)) }
 {
     let mut rest = Vec::new(alloc);
-    put_all_hold(alloc, symbols, plan, places as u64, &mut rest)?;
+    put_all_hold(alloc, symbols, plan, extent, &mut rest)?;
     let text = joined(alloc, ALL_HOLD, &rest)?;
     Ok(Told {
         text,

@@ -59,6 +59,9 @@ pub enum SearchFault {
     /// A search without bounds is to do what it doesn't know.
     #[error("--places goes with none of --fair, --reach, --remember, --shard and --shortest")]
     Places,
+    /// It is asked for what a search without bounds alone knows.
+    #[error("--livelock goes with --places")]
+    Livelock,
     /// A search without bounds has come to no answer: there are more places.
     #[error("not known: there are more than --places places")]
     MorePlaces,

@@ -50,4 +50,6 @@ pub struct SearchOptions<'a> {
     pub remember: u32,
     /// Through how many places a search goes at most for which events and preemptions have no bound; 0: they have.
     pub places: u32,
+    /// Whether such a search also looks for a board from which no schedule comes to an end.
+    pub livelock: bool,
 }

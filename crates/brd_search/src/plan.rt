@@ -1,9 +1,9 @@
 //! What is searched, and for what.
 
 ghost use Rattle.std.specs.Prelude.{MatchResult};
-ghost use Rattle.std.specs.Prelude.{◌≡◌, true};
+ghost use Rattle.std.specs.Prelude.{◌≡◌, true, false};
 ghost use Rattle.brd_search.specs.Plans.{IsPlan, KeepsFromPlanning, IsSized, IsOfSizes, IsShard, IsNoShard, text_of};
-ghost use Rattle.brd_search.specs.Plans.{DontFit, is_plain, places_fit};
+ghost use Rattle.brd_search.specs.Plans.{DontFit, IsOfLivelock, is_plain, places_fit};
 
 use crate::coming::{check_lines, may_come};
 use crate::fault::SearchFault;
@@ -42,6 +42,8 @@ pub struct Plan {
     pub remember: u32,
     /// Through how many places a search goes at most for which events and preemptions have no bound; 0: they have.
     pub places: u32,
+    /// Whether such a search also looks for a board from which no schedule comes to an end.
+    pub livelock: bool,
 }
 
 /// Written out, so that a function that lets one go is proved with a call.
@@ -55,6 +57,7 @@ impl Drop for Plan {
             shortest: _,
             remember: _,
             places: _,
+            livelock: _,
         } = self;
     }
 }
@@ -89,18 +92,32 @@ pub fn plan_of(
         shortest: options.shortest,
         remember: options.remember,
         places: options.places,
+        livelock: options.livelock,
     })
 }
 
 /// A search without bounds goes through the whole, and to no fair end; it finds what it finds, remembers all places, and
-/// sees no single instructions.
+/// sees no single instructions. It alone knows of boards from which no schedule comes to an end.
 fn check_places(options: &SearchOptions<'_>) -> Result<(), SearchFault>
     ensures { MatchResult result (λ _. places_fit options.now ≡ true) (DontFit options.now) }
 {
-    if options.places == 0 || is_plain(options) {
+    if options.places == 0 {
+        return check_bounded(options.livelock);
+    }
+    if is_plain(options) {
         return Ok(());
     }
     Err(SearchFault::Places)
+}
+
+/// A search with bounds doesn't look for boards from which no schedule comes to an end.
+fn check_bounded(livelock: bool) -> Result<(), SearchFault>
+    ensures { MatchResult result (λ _. livelock ≡ false) (IsOfLivelock livelock) }
+{
+    if livelock {
+        return Err(SearchFault::Livelock);
+    }
+    Ok(())
 }
 
 /// Whether options ask for nothing that a search without bounds doesn't know.

@@ -76,8 +76,20 @@ pub fn put_none(
         put_number(alloc, out, u64::from(plan.shard.of))?;
     }
     put(out, "\n")?;
-    put_looked_for(alloc, symbols, &plan.wanted, out)?;
+    put_looked_for(alloc, symbols, plan, out)?;
     put_ends(alloc, plan, counts, out)
+}
+
+/// Through how many places a search went for which events and preemptions have no bound; how many of them are ends; and
+/// from how many of them no schedule comes to an end.
+#[derive(Clone, Copy)]
+pub struct Extent {
+    /// Through how many it went.
+    pub places: u64,
+    /// How many of them are ends.
+    pub ends: u64,
+    /// From how many no schedule comes to an end, though there are ticks left for each wait that ends by one.
+    pub hopeless: u64,
 }
 
 /// Puts at the end that no schedule fails, however many events and preemptions it has, as what follows "none "; and
@@ -86,7 +98,7 @@ pub fn put_all_hold(
     alloc: Global,
     symbols: &[Symbol],
     plan: &Plan,
-    places: u64,
+    extent: Extent,
     out: &mut Vec<u8>,
 ) -> Result<(), NoMemory> {
     put(
@@ -95,27 +107,86 @@ pub fn put_all_hold(
     )?;
     put_extras(alloc, out, plan.bounds)?;
     put(out, "\n")?;
-    put_looked_for(alloc, symbols, &plan.wanted, out)?;
-    put_count(alloc, out, places, "place")?;
-    put(out, if places == 1 { " was" } else { " were" })?;
-    put(out, " gone through\n")
+    put_looked_for(alloc, symbols, plan, out)?;
+    put_count(alloc, out, extent.places, "place")?;
+    put(out, if extent.places == 1 { " was" } else { " were" })?;
+    put(out, " gone through, ")?;
+    put_number(alloc, out, extent.ends)?;
+    put(
+        out,
+        if extent.ends == 1 {
+            " is an end\n"
+        } else {
+            " are ends\n"
+        },
+    )?;
+    put_hopeless(alloc, plan, extent, out)
+}
+
+/// Puts a line at the end, if no schedule comes to an end from some places, or if none of them is an end.
+fn put_hopeless(
+    alloc: Global,
+    plan: &Plan,
+    extent: Extent,
+    out: &mut Vec<u8>,
+) -> Result<(), NoMemory> {
+    if extent.hopeless > 0 && !plan.livelock {
+        put(out, "warning: from ")?;
+        put_number(alloc, out, extent.hopeless)?;
+        return put(out, HOPELESS);
+    }
+    if extent.ends == 0 {
+        return put(out, NO_END_PLACE);
+    }
+    Ok(())
+}
+
+/// What is said where no schedule comes to an end from so many places.
+const HOPELESS: &str =
+    " of them no schedule comes to an end, so nothing that should be so at the end was looked at there; --livelock shows \
+     how one gets there\n";
+
+/// What is said where no place is an end.
+const NO_END_PLACE: &str =
+    "warning: none is an end, so nothing that should be so at the end was looked at; more --ticks may help\n";
+
+/// Puts at the end that from some board no schedule comes to an end, as what follows "fails ": after how many events it
+/// is there; and below that the schedule to it.
+pub fn put_hung(
+    alloc: Global,
+    symbols: &[Symbol],
+    board: &Board,
+    events: &[Event],
+    out: &mut Vec<u8>,
+) -> Result<(), NoMemory> {
+    put(out, "after ")?;
+    put_count(alloc, out, events.len() as u64, "event")?;
+    put(
+        out,
+        ": nobody gets on: from there no schedule comes to an end\n",
+    )?;
+    let mut copy = board.try_copy()?;
+    put_schedule(alloc, symbols, &mut copy, events, out)
 }
 
 /// Puts at the end a line of what is looked for.
 fn put_looked_for(
     alloc: Global,
     symbols: &[Symbol],
-    wanted: &Wanted,
+    plan: &Plan,
     out: &mut Vec<u8>,
 ) -> Result<(), NoMemory> {
     put(out, "looked for: ")?;
     let mut others = false;
-    for failure in wanted.failures.as_slice() {
+    for failure in plan.wanted.failures.as_slice() {
         if others {
             put(out, ", ")?;
         }
         put_kind(alloc, symbols, failure, out)?;
         others = true;
+    }
+    if plan.livelock {
+        put(out, ", a board from which no schedule comes to an end")?;
     }
     put(out, "\n")
 }
@@ -131,6 +202,7 @@ fn put_kind(
         Failure::Exception => put(out, "an exception"),
         Failure::Deadlock => put(out, "a deadlock"),
         Failure::On => put(out, "a board that is on at the end"),
+        Failure::Ended => put(out, "an end"),
         Failure::Console(text) => {
             put(out, "a console that isn't ")?;
             put_quoted(text.as_slice(), out)
@@ -287,6 +359,7 @@ pub fn put_failure(
             put_quoted(text.as_slice(), out)
         }
         Failure::On => put(out, "the board is on at the end"),
+        Failure::Ended => put(out, "an end"),
         Failure::Word { address, value } => {
             put_word(alloc, symbols, board, *address, out)?;
             put(out, ", not ")?;

@@ -167,6 +167,7 @@ const SEARCH: SearchOptions<'static> = SearchOptions {
     shard: None,
     remember: 0,
     places: 0,
+    livelock: false,
 };
 
 /// The options of a journal that is made shorter.

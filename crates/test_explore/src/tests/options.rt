@@ -34,6 +34,7 @@ const OPTIONS: SearchOptions = SearchOptions {
     shard: None,
     remember: 0,
     places: 0,
+    livelock: false,
 };
 
 /// Options, and what is wrong with them.
@@ -72,6 +73,13 @@ const FAULTS: &[(SearchOptions<'static>, SearchFault)] = &[
             ..OPTIONS
         },
         SearchFault::Places,
+    ),
+    (
+        SearchOptions {
+            livelock: true,
+            ..OPTIONS
+        },
+        SearchFault::Livelock,
     ),
     (
         SearchOptions {

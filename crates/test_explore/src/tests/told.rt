@@ -118,6 +118,7 @@ fn options_of(case: &Case) -> SearchOptions<'static> {
         shard: None,
         remember: 0,
         places: 0,
+        livelock: false,
     }
 }
 
