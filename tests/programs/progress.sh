@@ -156,11 +156,18 @@ printf 'main: b main\nnop\n' > "$work/source"
 "$board" asm "$work/source" "$work/loop"
 echo 'BOARD(1, 0x10000); CRE_TSK(1, {TA_ACT, 0, main, 1, 256, NULL});' > "$work/one"
 { echo 'BOARD(2, 0x10000);'; sed -n 2,3p "$work/four"; } > "$work/two"
-few='board: the processors hardly took turns \(20000 steps in [0-9]+ runs\): race again, with a larger QUOTA, or'
+few='board: the processors hardly took turns \(20000 steps in [0-9]+ runs, 0 of them did nothing\): race again, with'
+few="$few a larger QUOTA, or"
 few="$few draw turns by \`board journal --random\`"
 says_of_turns "$work/two" 10000 > "$work/said"
 verdict "progress: two processors that hardly take turns" \
     "$(grep -qE "^$few\\\\r\\\\n\$" "$work/said" || echo "it says $(head -c 600 "$work/said")")"
+printf 'main: addiu $v0, $0, 3\n syscall\n' > "$work/ends.s"
+"$board" asm "$work/ends.s" "$work/loop"
+says_of_turns "$work/two" 10000 > "$work/said"
+verdict "progress: processors that do nothing" \
+    "$(grep -qE '\(20000 steps in [0-9]+ runs, 19996 of them did nothing\)' "$work/said" || head -c 600 "$work/said")"
+"$board" asm "$work/source" "$work/loop"
 verdict "progress: fewer than 10,000 steps" "$(says_of_turns "$work/two" 4999)"
 verdict "progress: one processor" "$(says_of_turns "$work/one" 10000)"
 

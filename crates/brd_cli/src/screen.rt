@@ -113,14 +113,19 @@ impl<'a> Progress for Screen<'a> {
         }
     }
 
+    /// On a terminal.
+    fn shows_turns(&self) -> bool {
+        self.start.is_some()
+    }
+
     /// Says so in a line that stays, and what can be done.
-    fn took_few_turns(&mut self, steps: u64, runs: u64) {
+    fn took_few_turns(&mut self, steps: u64, runs: u64, idle: u64) {
         if self.start.is_none() {
             return;
         }
         let _ = eprintln!(self.rt;
-            "board: the processors hardly took turns ({steps} steps in {runs} runs): race again, with a larger QUOTA, \
-             or draw turns by `board journal --random`"
+            "board: the processors hardly took turns ({steps} steps in {runs} runs, {idle} of them did nothing): race \
+             again, with a larger QUOTA, or draw turns by `board journal --random`"
         );
     }
 

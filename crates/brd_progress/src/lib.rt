@@ -18,9 +18,14 @@ pub trait Progress {
     /// Output is written next, which is to stand alone.
     fn hide(&mut self);
 
+    /// Whether it would show how a race went. What doesn't say otherwise wouldn't.
+    fn shows_turns(&self) -> bool {
+        false
+    }
+
     /// A race is over in which the processors hardly took turns: its journal has so many steps of theirs, in so few
-    /// runs. What doesn't say otherwise does nothing then.
-    fn took_few_turns(&mut self, _steps: u64, _runs: u64) {}
+    /// runs, and so many of the steps did nothing. What doesn't say otherwise does nothing then.
+    fn took_few_turns(&mut self, _steps: u64, _runs: u64, _idle: u64) {}
 
     /// What is odd about the work's input, which is done all the same: a line of text. What doesn't say otherwise does
     /// nothing then.

@@ -12,6 +12,7 @@ mod debug_answer;
 mod debug_command;
 mod debug_line;
 mod explore_command;
+mod idling;
 pub mod laws;
 mod lines;
 mod meter;

@@ -8,6 +8,7 @@ ghost use Rattle.brd_threads.specs.Processors.{processors_of};
 ghost use Rattle.brd_running.specs.Files.{RaceFilesEnd};
 ghost use Rattle.brd_running.specs.RaceCommand.{IsShown, KeepsFromRacing, RaceEnds, ShowsStation, unkept};
 
+use crate::idling::idle_steps;
 use crate::meter::Meter;
 use crate::turns::Turns;
 use brd_base::NoMemory;
@@ -31,6 +32,8 @@ struct Shown {
     report: Vec<u8>,
     /// How often its processors took turns.
     turns: Turns,
+    /// How many of their steps did nothing, where that is asked for.
+    idle: u64,
 }
 
 /// Reads an object file, a configuration and a script to their ends, in this order. Lets a thread of the host work for
@@ -71,7 +74,7 @@ pub fn race<
         Err(fault) => return Err(fault),
     };
     progress.hide();
-    shown.turns.tell(progress);
+    shown.turns.tell(shown.idle, progress);
     match write_whole(out, &shown.journal) {
         Ok(()) => {}
         Err(error) => return Err(CommandFault::Write(error)),
@@ -177,6 +180,7 @@ fn raced<K: Race + Send + Sync, P: Progress + Send, R: Threads + Wait + Sync>(
         return Err(CommandFault::NoMemory);
     };
     let steps = u64::from(quota).saturating_mul(processors(&start.board) as u64);
+    let shows = progress.shows_turns();
     let meter = Meter::new(steps, progress);
     let raced = brd_threads::race::<K, Meter<'_, P>, R>(
         rt,
@@ -189,21 +193,34 @@ fn raced<K: Race + Send + Sync, P: Progress + Send, R: Threads + Wait + Sync>(
         blanks,
     );
     match raced {
-        Ok(station) => Ok(shown_of(alloc, &station)?),
+        Ok(station) => Ok(shown_of(alloc, start, &station, shows)?),
         Err(fault) => Err(CommandFault::of_race(fault)),
     }
 }
 
-/// What is shown of a station.
-fn shown_of<K: Race>(alloc: Global, station: &Station<K>) -> Result<Shown, NoMemory>
+/// What is shown of a station that a race from this start has left. How many steps did nothing is looked at only where
+/// it is shown.
+fn shown_of<K: Race>(
+    alloc: Global,
+    start: &RaceStart,
+    station: &Station<K>,
+    shows: bool,
+) -> Result<Shown, NoMemory>
     requires { length (runs_of station.now.journal.events) ≤ most_runs }
     ensures { IfOk result (λ shown. IsShown station.now shown.journal.items shown.report.items) }
 {
     let journal = station.journal().write_text(alloc)?;
     let report = report(alloc, station.board(), station.journal().len())?;
+    let turns = Turns::of(station);
+    let idle = if shows && turns.are_few() {
+        idle_steps(start.board.try_copy()?, station.journal())
+    } else {
+        0
+    };
     Ok(Shown {
         journal,
         report,
-        turns: Turns::of(station),
+        turns,
+        idle,
     })
 }

@@ -35,15 +35,15 @@ impl Turns {
         }
     }
 
-    /// Tells it where they are few.
-    pub fn tell<P: Progress>(self, progress: &mut P) {
+    /// Tells it where they are few, with how many steps did nothing.
+    pub fn tell<P: Progress>(self, idle: u64, progress: &mut P) {
         if self.are_few() {
-            progress.took_few_turns(self.steps, self.runs);
+            progress.took_few_turns(self.steps, self.runs, idle);
         }
     }
 
     /// Whether they are few.
-    fn are_few(self) -> bool
+    pub fn are_few(self) -> bool
         ensures { result ≡ are_few self.processors self.steps self.runs }
     {
         self.processors >= 2 && self.steps >= 10_000 && self.runs < self.steps / 1_000
