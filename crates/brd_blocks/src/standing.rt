@@ -9,8 +9,8 @@ use crate::look::has_place;
 use brd_board::{Board, Standing, TaskState, TaskView};
 use brd_exec::Context;
 
-/// Whether who executes on a processor, if anybody does, has a context that is known to lie in the kernel, and is ready,
-/// if it is a task. So it is after every list of events from a boot, but at address 0 without a stack.
+/// Whether who executes on a processor, if anybody does, has a context that is known to lie in the kernel, and is
+/// ready, if it is a task. So it is after every list of events from a boot, but at address 0 without a stack.
 pub fn stands_well(board: &Board, cpu: u8) -> bool
     ensures is { result ≡ stands_on board.now cpu }
     ensures well { result ≡ true → AllStandWell board.now cpu }

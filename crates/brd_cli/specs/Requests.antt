@@ -230,8 +230,9 @@ data_in (Some found) = unwrap_or (all_of (codes "DATA") found.1) []
 -- ---- command lines
 
 -- What the words of a command line come to, of which the first is the program's name: what the command that they name
--- asks for, with its data, where nothing is wrong with them; else one of the faults of the first step that fails, or lack of memory.
--- The last case is for words that pass though the command or an argument is missing, which none are known to do.
+-- asks for, with its data, where nothing is wrong with them; else one of the faults of the first step that fails, or
+-- lack of memory. The last case is for words that pass though the command or an argument is missing, which none are
+-- known to do.
 abbrev pub IsAnswer : List Text → Result Line EarlyEnd → Type 0
 IsAnswer words (Ok asked) = (fault_of board words ≡ []) × IsAsked (subcommand_of board words) (Some asked.request)
     × (map (λ text. text.now) asked.texts.items ≡ data_in (subcommand_of board words))

@@ -1,5 +1,6 @@
 -- Who reads standard input, for which `-` stands where a file is read. It is read once.
-use Rattle.std.specs.Prelude.{ℕ, ◌+◌, ◌-◌, ◌^◌, ◌==◌, List, [], ◌∷◌, bytes_eq, codes, if◌then◌else◌, length, min, nat_lt}
+use Rattle.std.specs.Prelude.{ℕ, ◌+◌, ◌-◌, ◌^◌, ◌==◌, List, [], ◌∷◌, bytes_eq, codes, if◌then◌else◌, length, min}
+use Rattle.std.specs.Prelude.{nat_lt}
 use Rattle.std.specs.Prelude.{Option, None, Some}
 use Rattle.std.specs.List.{after_first, position_or_len}
 use Rattle.clap.specs.Words.{Text}

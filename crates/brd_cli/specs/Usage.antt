@@ -43,8 +43,8 @@ count name flag = record (option name flag) { parser = Some (Signed (pos 0) (pos
 abbrev pub data_option : Rule
 data_option = record (new_rule (codes "DATA")) { long = Some (codes "data"); action = Some Append }
 
--- the files that `asm` takes, those that `run`, `debug`, `gdb`, `trace` and `shrink` take, those that `explore` takes, and
--- those that `race` takes beside its quota
+-- the files that `asm` takes, those that `run`, `debug`, `gdb`, `trace` and `shrink` take, those that `explore` takes,
+-- and those that `race` takes beside its quota
 abbrev pub source_and_out : List Text
 source_and_out = codes "SOURCE" ∷ codes "OUT" ∷ []
 

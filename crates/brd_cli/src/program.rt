@@ -16,8 +16,8 @@ use std::sync::Wait;
 use std::thread::Threads;
 
 /// Does what the words of a command line ask for, of which the first is the program's name, on files, standard input
-/// and standard output. Nothing is touched where they are refused, or ask for help or for standard input twice. How far a long command is, is told
-/// on the way.
+/// and standard output. Nothing is touched where they are refused, or ask for help or for standard input twice. How far
+/// a long command is, is told on the way.
 pub fn carry_out<
     S: AsStr,
     F: Files,

@@ -1,5 +1,6 @@
 -- The command `trace`: from what it starts, what it writes then, and how it ends where it doesn't.
-use Rattle.std.specs.Prelude.{◌≡◌, ◌≢◌, ◌⊎◌, ℕ, ◌<◌, ◌≤◌, min, true, false, List, length, ◌++◌, codes, Option, Some, None}
+use Rattle.std.specs.Prelude.{◌≡◌, ◌≢◌, ◌⊎◌, ℕ, ◌<◌, ◌≤◌, min, true, false, List, length, ◌++◌, codes, Option, Some}
+use Rattle.std.specs.Prelude.{None}
 use Rattle.std.specs.Prelude.{[], is_some, option_map, unwrap_or, Result, Ok, Err}
 use Rattle.std.specs.Bool.{MatchBool}
 use Rattle.std.specs.Io.KnownBytes.{Appends, Keeps}
@@ -66,7 +67,8 @@ KeepsFromAsking options len (NoEvents from to all) =
     (from ≡ first_of options) × (to ≡ end_of options len) × (all ≡ len) × (to < from) × (options.format ≢ None)
 KeepsFromAsking options len fault = ⊥
 
--- the words of which loads and stores are shown, of a board and the symbols of its image: none where no option names some
+-- the words of which loads and stores are shown, of a board and the symbols of its image: none where no option names
+-- some
 abbrev pub words_named : List Symbol → BoardState → Option (List ℕ) → Result (List ℕ) WordsFault
 words_named symbols board None = Ok []
 words_named symbols board (Some text) = words_of symbols board text
@@ -142,7 +144,8 @@ abbrev pub head : List ℕ
 head = codes "     event cpu who        where               what\n"
 
 -- Lines that tell of the events of a journal from a position on up to another one: one that says in some words what is
--- there before them, what is told of them, each once and in their order, and the line of those that were held back then.
+-- there before them, what is told of them, each once and in their order, and the line of those that were held back
+-- then.
 pub record AreLines (manner : Manner) (boot : BoardState) (events : List Event) (from to : ℕ) (first last : Printer)
     (text : List ℕ) : Type 0 where
   pub before : List ℕ

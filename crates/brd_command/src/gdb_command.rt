@@ -13,8 +13,8 @@ use std::io::{self, ErrorKind, Read, Write};
 
 /// Reads an object file, a configuration and a journal to their ends, in this order, and then serves GDB with a session
 /// of the board that the first two make and of the journal: standard input has what GDB sends, and the answers are
-/// written, each before more is read. It ends where GDB goes; an input that ends before is a fault. How far a move is, is
-/// told on the way.
+/// written, each before more is read. It ends where GDB goes; an input that ends before is a fault. How far a move is,
+/// is told on the way.
 pub fn gdb<R: Read, C: Read, W: Write, P: Progress>(
     alloc: Global,
     inputs: &mut Inputs<R>,
@@ -35,8 +35,8 @@ pub fn gdb<R: Read, C: Read, W: Write, P: Progress>(
     serve_all(alloc, &mut server, input, writer, progress)
 }
 
-/// Does `gdb` on its files: IMAGE is opened, then CONFIG, then JOURNAL, and then all are read. What GDB sends comes from
-/// `input`, and the answers are written.
+/// Does `gdb` on its files: IMAGE is opened, then CONFIG, then JOURNAL, and then all are read. What GDB sends comes
+/// from `input`, and the answers are written.
 pub fn gdb_files<F: Files, R: Read, W: Write, P: Progress>(
     alloc: Global,
     files: &mut F,

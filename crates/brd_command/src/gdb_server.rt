@@ -13,7 +13,8 @@ use brd_progress::Progress;
 use brd_stub::Session;
 use std::alloc::Global;
 
-/// A server of GDB: what it has received, a session, what has happened before, and whether it still acknowledges packets.
+/// A server of GDB: what it has received, a session, what has happened before, and whether it still acknowledges
+/// packets.
 pub struct Server {
     /// What it has received.
     pub receiver: Receiver,

@@ -21,8 +21,8 @@ use brd_stacks::{Following, put_stacks, stacks_of};
 use std::alloc::Global;
 use std::io::Write;
 
-/// Lets a board do the events of a journal up to a position, or up to the first store below a stack, and writes how deep
-/// each stack of its tasks and handlers became.
+/// Lets a board do the events of a journal up to a position, or up to the first store below a stack, and writes how
+/// deep each stack of its tasks and handlers became.
 pub(crate) fn write_stacks<W: Write, P: Progress>(
     alloc: Global,
     board: Board,

@@ -322,8 +322,8 @@ fn is_step_by(who: Standing, board: &Board, event: Event) -> bool
     }
 }
 
-/// Whether an event with this report, which left a board, is a stop of who is stepped; whether it was a step of whom the
-/// stepper names was seen before it.
+/// Whether an event with this report, which left a board, is a stop of who is stepped; whether it was a step of whom
+/// the stepper names was seen before it.
 #[inline(always)]
 fn is_stepped(
     stepper: Option<Stepper>,

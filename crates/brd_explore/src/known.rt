@@ -76,8 +76,8 @@ impl Kept {
         })
     }
 
-    /// Whether what was searched from here answers for the place where a search is, which has this mark. Where the marks
-    /// differ the boards do, or who has stepped last.
+    /// Whether what was searched from here answers for the place where a search is, which has this mark. Where the
+    /// marks differ the boards do, or who has stepped last.
     fn is_enough_for(&self, search: &Search, mark: u64, more: bool) -> bool
         ensures { (wanted : WantedOf) (among : ListOf EventOf) → (more ≡ true → may_have_more wanted ≡ true) →
             NoneGoes wanted among (spot_of_kept self.now) → result ≡ true →
@@ -122,9 +122,9 @@ impl Known {
         self.pending.clear();
     }
 
-    /// Whether the place where a search is, to which it has just come, equals one from which every schedule was searched,
-    /// or if `more` is allowed differs only in that less is left. (Where nobody sleeps at that one, anybody may here.) If
-    /// not, it is kept as a pending one, where there is room and memory.
+    /// Whether the place where a search is, to which it has just come, equals one from which every schedule was
+    /// searched, or if `more` is allowed differs only in that less is left. (Where nobody sleeps at that one, anybody
+    /// may here.) If not, it is kept as a pending one, where there is room and memory.
     pub(crate) fn knows(&mut self, search: &Search, more: bool) -> bool
         ensures is { (wanted : WantedOf) (among : ListOf EventOf) → (more ≡ true → may_have_more wanted ≡ true) →
             AreDone wanted among self.old → result ≡ true → NoneGoes wanted among (spot_of search.now) }

@@ -1,6 +1,6 @@
--- The packets that make requests, without reading them (GDB manual, "Packets", "vCont Packet", "General Query Packets").
--- What a text of `monitor` and the actions of `vCont` ask for, `specs/Reading.antt` says. That just these packets are
--- read so is proved as `laws::packets_follow_the_grammar`.
+-- The packets that make requests, without reading them (GDB manual, "Packets", "vCont Packet", "General Query
+-- Packets"). What a text of `monitor` and the actions of `vCont` ask for, `specs/Reading.antt` says. That just these
+-- packets are read so is proved as `laws::packets_follow_the_grammar`.
 use Rattle.std.specs.Prelude.{◌≡◌, ◌⊎◌, ℕ, ◌<◌, ◌==◌, Bool, true, false, List, [], ◌∷◌, ◌++◌, codes, Some}
 use Rattle.std.specs.List.{join_with_byte}
 use Rattle.brd_text.specs.Numbers.{most_word, value_of}

@@ -1,5 +1,5 @@
--- Text on GDB's console (GDB manual, "Stop Reply Packets", `O`): packets of the letter and the text's bytes in two digits
--- each, one after the other, so that each fits.
+-- Text on GDB's console (GDB manual, "Stop Reply Packets", `O`): packets of the letter and the text's bytes in two
+-- digits each, one after the other, so that each fits.
 use Rattle.std.specs.Prelude.{◌≡◌, ◌<◌, ◌≤◌, ℕ, List, [], ◌∷◌, ◌++◌, length}
 use Rattle.brd_gdb.specs.Hexes.{hexed}
 use Rattle.brd_gdb.specs.Packets.{framed}

@@ -1,6 +1,7 @@
 -- What comes with the bytes of a stream (GDB manual, "Overview"): packets, acknowledgments and interrupts. What stands
 -- between them is skipped. A `$` within a packet begins another.
-use Rattle.std.specs.Prelude.{ℕ, ◌+◌, ◌*◌, ◌%◌, ◌==◌, nat_lt, Bool, true, false, if◌then◌else◌, List, [], ◌∷◌, ◌++◌, length}
+use Rattle.std.specs.Prelude.{ℕ, ◌+◌, ◌*◌, ◌%◌, ◌==◌, nat_lt, Bool, true, false, if◌then◌else◌, List, [], ◌∷◌, ◌++◌}
+use Rattle.std.specs.Prelude.{length}
 use Rattle.std.specs.Prelude.{Option, None, Some}
 use Rattle.std.specs.Int.Bits.{bit_xor}
 use Rattle.brd_text.specs.Numbers.{hex_digit_value}

@@ -1,4 +1,5 @@
--- The parts of a text that GDB reads with `qXfer` (GDB manual, "qXfer read"): `m` before a part, or `l` before the last.
+-- The parts of a text that GDB reads with `qXfer` (GDB manual, "qXfer read"): `m` before a part, or `l` before the
+-- last.
 use Rattle.std.specs.Prelude.{ℕ, ◌+◌, nat_lt, min, if◌then◌else◌, List, ◌∷◌, ◌++◌, length, take, drop}
 use Rattle.brd_gdb.specs.Receiving.{packet_size}
 

@@ -9,9 +9,9 @@ use brd_base::NoMemory;
 const MOST_PART: usize = 16_383;
 
 /// No operating system: so GDB asks for single steps, and doesn't set breaks of its own for them, which no processor
-/// comes to from a delay slot. The registers by number: 32 general ones, the status, lo, hi, the bad address, the cause,
-/// the program counter, those of floating point, without which GDB takes no description of this processor, and the
-/// address of the last exception.
+/// comes to from a delay slot. The registers by number: 32 general ones, the status, lo, hi, the bad address, the
+/// cause, the program counter, those of floating point, without which GDB takes no description of this processor, and
+/// the address of the last exception.
 const FEATURES: &[u8] = b"\
     <?xml version='1.0'?>\n\
     <!DOCTYPE target SYSTEM 'gdb-target.dtd'>\n\

@@ -138,8 +138,8 @@ pub(crate) fn range_of(operation: Operation) -> Option<&'static [u8]> {
     }
 }
 
-/// What is said of a value of an instruction that is out of range, where it is a name, or a number of which another form
-/// is the cure.
+/// What is said of a value of an instruction that is out of range, where it is a name, or a number of which another
+/// form is the cure.
 pub(crate) fn half_of(operation: Operation, value: &[u8]) -> Option<&'static [u8]> {
     let Operation::Mnemonic(mnemonic) = operation else {
         return None;

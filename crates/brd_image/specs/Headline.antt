@@ -14,9 +14,9 @@ use Rattle.brd_board.specs.Board.{BoardState, after}
 use Rattle.brd_board.specs.Boot.{boot}
 use Rattle.brd_image.specs.Building.{IsImageOf}
 
--- The object file is that of the source's image, which it means again. In this image, at the address of each line of the
--- source with an instruction, lie the bytes, in the image's byte order, of a word that the instruction table relates to
--- that instruction, its operands computed with the values of all the source's names.
+-- The object file is that of the source's image, which it means again. In this image, at the address of each line of
+-- the source with an instruction, lie the bytes, in the image's byte order, of a word that the instruction table
+-- relates to that instruction, its operands computed with the values of all the source's names.
 pub record WordsDecode (source elf : List ℕ) : Type 0 where
   pub image : Image
   pub is_image : IsImageOf source image

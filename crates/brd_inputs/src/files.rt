@@ -49,8 +49,8 @@ pub trait Files {
         self.create(name)
     }
 
-    /// Whether a file of that name could be created now, and is neither of two others: else the error. The files stay as
-    /// they are.
+    /// Whether a file of that name could be created now, and is neither of two others: else the error. The files stay
+    /// as they are.
     fn try_create(&self, name: &str, _image: &str, _config: &str) -> io::Result<()>
         ensures { IfErr result (λ error. created self.now name.now (Err error) self.now) }
     {

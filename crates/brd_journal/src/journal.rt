@@ -89,8 +89,8 @@ impl Journal {
         Ok(())
     }
 
-    /// Appends an event n times, where a run at the end is all that this takes. Answers whether it did; else nothing has
-    /// changed.
+    /// Appends an event n times, where a run at the end is all that this takes. Answers whether it did; else nothing
+    /// has changed.
     #[inline(always)]
     pub(crate) fn puts(&mut self, event: Event, count: u32) -> bool
         requires { 1 ≤ count }

@@ -67,8 +67,8 @@ impl Playback {
     }
 
     /// Goes on with steps of a run, up to a position, each of which executes an instruction and no more. It is given
-    /// what is left of that run. Answers how many it did: mostly all up to the next one that does more, and none where the
-    /// board has no decoded instructions.
+    /// what is left of that run. Answers how many it did: mostly all up to the next one that does more, and none where
+    /// the board has no decoded instructions.
     pub fn go_on(&mut self, rest: Run, to: u64) -> u64
         requires on { self.old.at ≤ to }
         ensures few { result ≤ rest.count }

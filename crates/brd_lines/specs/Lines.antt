@@ -6,8 +6,8 @@ use Rattle.std.specs.Option.{option_map}
 use Rattle.brd_listing.specs.Names.{shown_name}
 use Rattle.brd_lines.specs.declared.lines.{Stretch.Stretch, Place.Place}
 
--- what contracts see of lines: the paths of files, and the stretches of addresses whose code stands for a line of one of
--- them, by ascending address
+-- what contracts see of lines: the paths of files, and the stretches of addresses whose code stands for a line of one
+-- of them, by ascending address
 pub record LinesOf : Type 0 where
   pub files : List (List ℕ)
   pub stretches : List Stretch

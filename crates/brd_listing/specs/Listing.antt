@@ -10,7 +10,8 @@ use Rattle.brd_isa.specs.Names.{mnemonic_named}
 use Rattle.brd_isa.specs.Registers.{register_names}
 use Rattle.brd_text.specs.Hex.{hex_of}
 use Rattle.brd_listing.specs.declared.operand.ListedOperand.{ListedOperand}
-use Rattle.brd_listing.specs.declared.operand.ListedOperand.TheVariants.{Nothing, Register, Signed, Bits, Number, Target}
+use Rattle.brd_listing.specs.declared.operand.ListedOperand.TheVariants.{Nothing, Register, Signed, Bits, Number}
+use Rattle.brd_listing.specs.declared.operand.ListedOperand.TheVariants.{Target}
 use Rattle.brd_listing.specs.declared.operand.ListedOperand.TheVariants.{Address}
 use Rattle.brd_listing.specs.Places.{short_hex}
 

@@ -12,16 +12,16 @@ use Rattle.brd_timeline.specs.Picture.{most_drawn}
 use Rattle.brd_recording.specs.Slices.{AreSlices}
 use Rattle.brd_page.specs.declared.run_page.TheConstants.{NO_PICTURE}
 
--- A picture of SVG of a timeline from one position to another: it has the bars of its slices, which are of what goes on.
--- Of what a picture has besides bars nothing is said here.
+-- A picture of SVG of a timeline from one position to another: it has the bars of its slices, which are of what goes
+-- on. Of what a picture has besides bars nothing is said here.
 pub record IsPicture (boot : BoardState) (events : List Event) (from to : ℕ) (text : List ℕ) : Type 0 where
   pub timeline : Timeline
   pub are_slices : AreSlices boot events from to timeline
   pub bars : Holds (slices_text timeline) text
   pub ends : EndsWith (codes "</svg>\n") text
 
--- There are more lanes, and slices of what goes on in them, than a picture shows. (How many slices that are is laid down:
--- they follow one another without a gap, and each ends where something else goes on.)
+-- There are more lanes, and slices of what goes on in them, than a picture shows. (How many slices that are is laid
+-- down: they follow one another without a gap, and each ends where something else goes on.)
 pub record IsUndrawn (boot : BoardState) (events : List Event) (from to : ℕ) : Type 0 where
   pub timeline : Timeline
   pub are_slices : AreSlices boot events from to timeline

@@ -759,8 +759,8 @@ function circle(state) {
     + held.get(object).map((unit) => unit.who + " took at " + after(unit.i)).join(" and "));
 }
 
-// Whether an idle processor may be about to accept an interrupt: one is raised since its last step, and pending. (Before
-// the first position some may have been raised.)
+// Whether an idle processor may be about to accept an interrupt: one is raised since its last step, and pending.
+// (Before the first position some may have been raised.)
 function isRaised(state) {
   const raised = new Map();
   for (const { i, found } of textsOf(/^(the|accepts the) interrupt of line (\d+)/)) {

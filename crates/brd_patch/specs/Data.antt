@@ -1,5 +1,6 @@
 -- Data in memory: pieces, each of bytes from an address on, that take the place of what an object file loads there.
-use Rattle.std.specs.Prelude.{◌≡◌, ℕ, ◌+◌, ◌-◌, ◌≤◌, max, nat_lt, if◌then◌else◌, List, [], ◌∷◌, ◌++◌, length, take, drop}
+use Rattle.std.specs.Prelude.{◌≡◌, ℕ, ◌+◌, ◌-◌, ◌≤◌, max, nat_lt, if◌then◌else◌, List, [], ◌∷◌, ◌++◌, length, take}
+use Rattle.std.specs.Prelude.{drop}
 use Rattle.std.specs.Prelude.{flat_map, fold, Ok}
 use Rattle.std.specs.List.{AllByRecursion}
 use Rattle.brd_base.specs.Space.{top}

@@ -103,8 +103,8 @@ fn snapshot_of(start: &Board, kept: &[Kept], board: &Board) -> Result<Snapshot, 
     }
 }
 
-/// Adds an entry. Where its place is to be kept whole, that is done. A refusal leaves the entries as they are. The board
-/// in `spare` may become another one.
+/// Adds an entry. Where its place is to be kept whole, that is done. A refusal leaves the entries as they are. The
+/// board in `spare` may become another one.
 #[tactic(auto, using(crate::proofs::StepLemmas::kept_more, crate::proofs::StepLemmas::popped))]
 pub(crate) fn put(
     start: &Board,

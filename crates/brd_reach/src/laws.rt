@@ -14,8 +14,8 @@ pub trait Places {
     ghost is_place: { Left → BoardState → Type 0 };
 }
 
-/// Where no place of a tree fails, no schedule from a place fails that has no more ticks and raises than are left there,
-/// however many events and preemptions it has.
+/// Where no place of a tree fails, no schedule from a place fails that has no more ticks and raises than are left
+/// there, however many events and preemptions it has.
 pub fn a_closed_tree_shows_that_none_fails<P: Places>()
     ensures { (by : Sharing) (among : List EventOf) (wanted : WantedOf) → ShowsNone by among wanted P.is_place }
 {}

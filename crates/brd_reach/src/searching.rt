@@ -82,8 +82,8 @@ fn ram_len(board: &Board) -> u32 {
     PAGES * PAGE
 }
 
-/// Who may touch which word of a RAM of this size: all what failures watch, and nobody's else. None if a failure watches
-/// instructions.
+/// Who may touch which word of a RAM of this size: all what failures watch, and nobody's else. None if a failure
+/// watches instructions.
 fn guarded(alloc: Global, size: u32, wanted: &Wanted) -> Result<Option<Sharing>, NoMemory>
     ensures { IfOk result (λ found. IfSome found (λ sharing. Guards (sharing_of sharing) wanted.now)) }
 {

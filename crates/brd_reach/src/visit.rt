@@ -188,8 +188,8 @@ fn paid(left: Left, event: Event) -> Option<Left>
     }
 }
 
-/// Adds a place, unless it is there: the board to which one event n times leads from the place of an index. The way to it
-/// is noted.
+/// Adds a place, unless it is there: the board to which one event n times leads from the place of an index. The way to
+/// it is noted.
 fn note(
     places: &mut Places,
     ways: &mut Ways,

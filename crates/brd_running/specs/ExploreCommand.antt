@@ -60,7 +60,8 @@ abbrev pub IsHopeless : Plan → BoardState → List Event → Type 0
 IsHopeless plan b events = NeverEnds (after b events) (rest_of (left_by plan.bounds) events) plan.among
 
 -- that is told, and the journal of the events
-pub record TellsHung (plan : Plan) (b : BoardState) (events : List Event) (text : List ℕ) (journal : Option (List ℕ)) : Type 0 where
+pub record TellsHung (plan : Plan) (b : BoardState) (events : List Event) (text : List ℕ) (journal : Option (List ℕ)) :
+    Type 0 where
   pub hopeless : IsHopeless plan b events
   pub tells : Begins (codes "fails ") text
   pub saves : journal ≡ Some (text_of b.memory.order events)

@@ -259,9 +259,9 @@ fn text_hung(
 ) -> Result<Vec<u8>, NoMemory>
     ensures { IfOk result (λ text. Begins (codes "fails ") text.items) }
 {
-    let mut rest = Vec::new(alloc);
-    put_hung(alloc, symbols, board, events, &mut rest)?;
-    joined(alloc, FAILS, &rest)
+    let mut hung = Vec::new(alloc);
+    put_hung(alloc, symbols, board, events, &mut hung)?;
+    joined(alloc, FAILS, &hung)
 }
 
 /// What is left of ticks and raises, by bounds.

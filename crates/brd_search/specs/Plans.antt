@@ -295,7 +295,8 @@ is_plain options =
     options.sizes.fair == 0 && options.remember == 0 && not options.shortest
     && not (is_some (text_of options.shard)) && not (is_some (text_of options.looks.reach))
 
--- They don't ask for such a search, nor for boards from which no schedule comes to an end, or they ask for nothing else.
+-- They don't ask for such a search, nor for boards from which no schedule comes to an end, or they ask for nothing
+-- else.
 abbrev pub places_fit : SearchOptions → Bool
 places_fit options = if options.places == 0 then not options.livelock else is_plain options
 

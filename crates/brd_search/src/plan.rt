@@ -96,8 +96,8 @@ pub fn plan_of(
     })
 }
 
-/// A search without bounds goes through the whole, and to no fair end; it finds what it finds, remembers all places, and
-/// sees no single instructions. It alone knows of boards from which no schedule comes to an end.
+/// A search without bounds goes through the whole, and to no fair end; it finds what it finds, remembers all places,
+/// and sees no single instructions. It alone knows of boards from which no schedule comes to an end.
 fn check_places(options: &SearchOptions<'_>) -> Result<(), SearchFault>
     ensures { MatchResult result (λ _. places_fit options.now ≡ true) (DontFit options.now) }
 {

@@ -1,5 +1,5 @@
--- A board has played the first events of a list, and their points were taken. No store below a stack came before the last
--- of these points.
+-- A board has played the first events of a list, and their points were taken. No store below a stack came before the
+-- last of these points.
 use Rattle.std.specs.Prelude.{List, take}
 use Rattle.brd_board.specs.declared.event.Event.{Event}
 use Rattle.brd_board.specs.Board.{BoardState}

@@ -18,7 +18,8 @@ abbrev pub found : {A : Type 0} → Result A BootFault → Option A
 found (Ok x) = Some x
 found (Err fault) = None
 
--- a region from its lowest address to behind its last byte; the next stack that the configuration leaves open ends at free
+-- a region from its lowest address to behind its last byte; the next stack that the configuration leaves open ends at
+-- free
 abbrev pub laid_in : Region → Laid
 laid_in region = record { low = region.low; end = region.low + region.len; free = region.free }
 

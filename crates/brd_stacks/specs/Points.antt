@@ -1,5 +1,6 @@
 -- Which point an event comes to: what who executes in it does with $sp, register 29, and what it stores.
-use Rattle.std.specs.Prelude.{◌++◌, ◌+◌, ◌==◌, ◌||◌, ℕ, Bool, true, false, if◌then◌else◌, List, [], ◌∷◌, Option, None, Some}
+use Rattle.std.specs.Prelude.{◌++◌, ◌+◌, ◌==◌, ◌||◌, ℕ, Bool, true, false, if◌then◌else◌, List, [], ◌∷◌, Option, None}
+use Rattle.std.specs.Prelude.{Some}
 use Rattle.std.specs.List.{cons_option}
 use Rattle.brd_isa.specs.declared.instruction.Insn.{Insn}
 use Rattle.brd_isa.specs.declared.shape.MemoryAccess.{MemoryAccess}

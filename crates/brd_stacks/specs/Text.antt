@@ -1,5 +1,5 @@
--- Stacks in words: a line for each with how much of it was used at most, the event and the place, and one for each store
--- below a stack, or that there is none.
+-- Stacks in words: a line for each with how much of it was used at most, the event and the place, and one for each
+-- store below a stack, or that there is none.
 use Rattle.std.specs.Prelude.{◌-◌, ℕ, nat_lt, if◌then◌else◌, List, [], ◌++◌, codes, Option, None, Some}
 use Rattle.std.specs.List.{flat_map}
 use Rattle.std.specs.Fmt.{decimal}

@@ -43,8 +43,8 @@ impl Following {
         })
     }
 
-    /// Does the next events of a journal, up to a position, or up to one that stores below a stack, with those of its run
-    /// after it that do nothing. No store below a stack came before. After an `Err` nothing is known any more.
+    /// Does the next events of a journal, up to a position, or up to one that stores below a stack, with those of its
+    /// run after it that do nothing. No store below a stack came before. After an `Err` nothing is known any more.
     pub fn advance_far(&mut self, alloc: Global, journal: &Journal, to: u64) -> Result<(), NoMemory>
         requires on { self.old.playback.at ≤ to }
         requires within { to ≤ length journal.now.events }
@@ -64,8 +64,8 @@ impl Following {
         Ok(())
     }
 
-    /// Does the next event of a journal, and those of its run after it that do nothing, up to a position. No store below
-    /// a stack came before it. After an `Err` nothing is known any more.
+    /// Does the next event of a journal, and those of its run after it that do nothing, up to a position. No store
+    /// below a stack came before it. After an `Err` nothing is known any more.
     fn advance(&mut self, alloc: Global, journal: &Journal, to: u64) -> Result<(), NoMemory>
         requires on { self.old.playback.at ≤ to }
         requires within { to ≤ length journal.now.events }

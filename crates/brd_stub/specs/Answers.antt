@@ -22,7 +22,8 @@ use Rattle.brd_stub.specs.Points.{may_set, with_point, without_point}
 use Rattle.brd_stub.specs.Moving.{stepping, of_all, moved_to, Ended, GoesForward, GoesBack}
 use Rattle.brd_stub.specs.declared.threads.Thread.{Thread}
 use Rattle.brd_stub.specs.declared.threads.Whose.{Whose}
-use Rattle.brd_stub.specs.Threads.{context_at, fault_at, first_task, kind_by, chosen_first, may_show, switched, thread_named}
+use Rattle.brd_stub.specs.Threads.{context_at, fault_at, first_task, kind_by, chosen_first, may_show, switched}
+use Rattle.brd_stub.specs.Threads.{thread_named}
 use Rattle.brd_stub.specs.Stepping.{stepper_back, stepped_by}
 use Rattle.brd_stub.specs.Selecting.{beginning, stepping_of, chosen_by, selected_by, asked_by, switched_by}
 use Rattle.brd_stub.specs.Halting.{halt_text, current_text, fitting, done_text, note_text}
@@ -134,8 +135,8 @@ pub record Answers (s : Session) (request : Request) (reply : List ℕ) (next : 
   pub says : Says s request next reply
   pub short : length reply ≤ packet_size
 
--- A session begins before the first event, with no point. Its threads are the tasks, if the board has some, and it reads
--- and steps the one that executes.
+-- A session begins before the first event, with no point. Its threads are the tasks, if the board has some, and it
+-- reads and steps the one that executes.
 pub record Begins (boot : BoardState) (events : List Event) (s : Session) : Type 0 where
   pub debugger : s.debugger ≡ record { boot = boot; events = events; position = 0; stops = no_stops }
   pub points : s.points ≡ []

@@ -1,5 +1,6 @@
 -- How GDB is told why the board stands where it is (GDB manual, "Stop Reply Packets").
-use Rattle.std.specs.Prelude.{if◌then◌else◌, is_some, ℕ, ◌/◌, ◌%◌, nat_lt, Bool, true, false, List, [], ◌∷◌, ◌++◌, take, codes}
+use Rattle.std.specs.Prelude.{if◌then◌else◌, is_some, ℕ, ◌/◌, ◌%◌, nat_lt, Bool, true, false, List, [], ◌∷◌, ◌++◌, take}
+use Rattle.std.specs.Prelude.{codes}
 use Rattle.brd_exec.specs.declared.outcome.ExceptionCode.{ExceptionCode}
 use Rattle.brd_board.specs.Board.{BoardState, registers_of}
 use Rattle.brd_text.specs.Hex.{hex_of}

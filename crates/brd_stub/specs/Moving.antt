@@ -20,8 +20,8 @@ use Rattle.brd_stub.specs.Threads.{stepped_thread, standing_thread}
 use Rattle.brd_stub.specs.Reasons.{thread_of, watched, hides_break, hides_exception, hides_watch}
 use Rattle.brd_stub.specs.Reasons.{told_ahead, reason_for}
 
--- The debugger, while a move steps somebody, or nobody: it stops at the points that are set, at exceptions, and where he
--- is stepped, and nowhere else.
+-- The debugger, while a move steps somebody, or nobody: it stops at the points that are set, at exceptions, and where
+-- he is stepped, and nowhere else.
 abbrev pub stepping : List Point → Stepped → DebuggerState → DebuggerState
 stepping points it d =
     record d { stops = stops_for points it }

@@ -1,11 +1,12 @@
 -- The registers of a thread as GDB reads them, by their numbers in its target description of MIPS: 0 to 31 the general
--- ones, 32 the status, 33 LO, 34 HI, 35 the bad address, 36 the cause, 37 the program counter, 38 to 71 those of floating
--- point, 72 the address of an exception. The board keeps no status and no bad address; `x` stands for a digit that can't
--- be read (GDB manual, "Packets", g). The cause and the address are those of the last exception on the thread's
--- processor. Own choice: a thread without a context, as a processor on which nobody executes, reads as 0, since GDB 13
--- ends where it can't read a program counter; and so do the registers of floating point, without which it shows no list
--- of all registers.
-use Rattle.std.specs.Prelude.{ℕ, ◌+◌, ◌*◌, ◌^◌, ◌==◌, nat_lt, nat_le, ◌&&◌, Bool, true, false, if◌then◌else◌, List, [], ◌∷◌, ◌++◌, replicate, Option, Some, None}
+-- ones, 32 the status, 33 LO, 34 HI, 35 the bad address, 36 the cause, 37 the program counter, 38 to 71 those of
+-- floating point, 72 the address of an exception. The board keeps no status and no bad address; `x` stands for a digit
+-- that can't be read (GDB manual, "Packets", g). The cause and the address are those of the last exception on the
+-- thread's processor. Own choice: a thread without a context, as a processor on which nobody executes, reads as 0,
+-- since GDB 13 ends where it can't read a program counter; and so do the registers of floating point, without which it
+-- shows no list of all registers.
+use Rattle.std.specs.Prelude.{ℕ, ◌+◌, ◌*◌, ◌^◌, ◌==◌, nat_lt, nat_le, ◌&&◌, Bool, true, false, if◌then◌else◌, List, []}
+use Rattle.std.specs.Prelude.{◌∷◌, ◌++◌, replicate, Option, Some, None}
 use Rattle.brd_word.specs.declared.order.Order.{Order}
 use Rattle.brd_word.specs.Words.{bytes_of_word}
 use Rattle.brd_exec.specs.Exception.{number_of}

@@ -1,6 +1,7 @@
 -- What GDB's threads are: the kernel's tasks, whether they execute or not, and the handlers that run; or the board's
 -- processors (own choice). A board without tasks has its processors as threads.
-use Rattle.std.specs.Prelude.{ℕ, zero, suc, ◌+◌, ◌-◌, ◌==◌, nat_lt, nat_le, ◌&&◌, Bool, true, false, if◌then◌else◌, is_some}
+use Rattle.std.specs.Prelude.{ℕ, zero, suc, ◌+◌, ◌-◌, ◌==◌, nat_lt, nat_le, ◌&&◌, Bool, true, false, if◌then◌else◌}
+use Rattle.std.specs.Prelude.{is_some}
 use Rattle.std.specs.Prelude.{Option, None, Some}
 use Rattle.brd_exec.specs.State.{State}
 use Rattle.brd_kernel.specs.declared.processor.Standing.{Standing}

@@ -595,7 +595,8 @@ fn show_number(alloc: Global, out: &mut Vec<u8>, name: &str, number: u16) -> Res
     Ok(())
 }
 
-/// What there is to say of a thread: of a task or handler where it is, and what it does; of a processor whom it executes.
+/// What there is to say of a thread: of a task or handler where it is, and what it does; of a processor whom it
+/// executes.
 pub fn thread_text(alloc: Global, board: &Board, thread: Thread) -> Result<Vec<u8>, NoMemory> {
     let mut out = Vec::new(alloc);
     if let Thread::Processor(_) = thread {

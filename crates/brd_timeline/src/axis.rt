@@ -52,8 +52,8 @@ fn put_event(to: &mut Vec<u8>, timeline: &Timeline, at: u64, bottom: u32) -> Res
     put_number(to, at, x, bottom + 160)
 }
 
-/// Puts the axis of ticks at the end, if there are any. Where there are many ticks, only some have a line, and fewer a number; of those
-/// that are close together, only some have a number.
+/// Puts the axis of ticks at the end, if there are any. Where there are many ticks, only some have a line, and fewer a
+/// number; of those that are close together, only some have a number.
 pub(crate) fn put_ticks(to: &mut Vec<u8>, timeline: &Timeline) -> Result<(), NoMemory> {
     if timeline.ticks.is_empty() {
         return Ok(());

@@ -23,7 +23,8 @@ ends_line bytes = ends_from true bytes
 abbrev pub whole_text : List ℕ → List ℕ
 whole_text bytes = bytes ++ (if ends_line bytes then [] else 10 ∷ [])
 
--- The same of a console that has at most 1,600 bytes, as 20 lines of 80; else its front, and how many bytes come behind.
+-- The same of a console that has at most 1,600 bytes, as 20 lines of 80; else its front, and how many bytes come
+-- behind.
 abbrev pub more_text : ℕ → List ℕ
 more_text count = codes "(and " ++ decimal count ++ codes " bytes more: --keep, and board run shows them)\n"
 

@@ -71,9 +71,9 @@ impl Board {
         }
     }
 
-    /// Lets a processor go on: does some of its next steps, up to `limit` of them, each of which executes an instruction
-    /// and no more. Answers how many it did: as many as a batch of decoded instructions had, and none where the board
-    /// has no table of these.
+    /// Lets a processor go on: does some of its next steps, up to `limit` of them, each of which executes an
+    /// instruction and no more. Answers how many it did: as many as a batch of decoded instructions had, and none where
+    /// the board has no table of these.
     pub fn go_on(&mut self, cpu: u8, limit: u32) -> u32
         ensures few { result ≤ limit }
         ensures done { self.new ≡ after self.old (replicate result (Step cpu)) }

@@ -331,8 +331,8 @@ fn first_wrong_request<T: Threads + Wait + Sync>(rt: &T, alloc: Global) -> Optio
 }
 
 /// `words` touches no file, `asm` neither standard input nor output, `run`, `race`, `explore` and `shrink` no standard
-/// input. (The files hold a source, so that these read all of them, and then refuse the object file: a file for a journal
-/// that is found is created only later.)
+/// input. (The files hold a source, so that these read all of them, and then refuse the object file: a file for a
+/// journal that is found is created only later.)
 #[test]
 fn requests(rt: HostRuntime) -> Result<(), Fail> {
     none_wrong(first_wrong_request(&rt, rt.alloc()))

@@ -43,8 +43,8 @@ fn no_deadlock(alloc: Global) -> Option<Wanted> {
     })
 }
 
-/// How many events are left of a list, where it fails, and with how many switches: of those that are left out alone, and
-/// where turns are moved, too.
+/// How many events are left of a list, where it fails, and with how many switches: of those that are left out alone,
+/// and where turns are moved, too.
 fn left_of(alloc: Global, board: &Board, events: &[Event]) -> Option<[usize; 3]> {
     let wanted = no_deadlock(alloc)?;
     if !fails(board, events, &wanted).ok()? {
