@@ -192,7 +192,9 @@ holds() {
     [ "$1" = 0 ] || echo -n "; status $1, wanted 0: $(head -c 300 "$work/err")"
     [ ! -s "$work/err" ] || echo -n "; standard error is '$(head -c 300 "$work/err")'"
     head -n 1 "$work/out" | grep -q '^none fails, however many events and preemptions it has: at most ' &&
-        sed -n 2p "$work/out" | grep -q '^looked for: .' && sed -n 3p "$work/out" | grep -qE '^[0-9]+ places? w(as|ere) gone through$' ||
+        sed -n 2p "$work/out" | grep -q '^looked for: .' &&
+        sed -n 3p "$work/out" | grep -qE '^[0-9]+ places? w(as|ere) gone through, (1 is an end|[0-9]+ are ends)$' &&
+        [ "$(wc -l < "$work/out")" = 3 ] ||
         echo -n "; it says '$(head -c 300 "$work/out")'"
 }
 
@@ -204,7 +206,22 @@ while IFS='|' read -r source config words told how; do
     *_right.s,*,none*)
         assembled "$source"
         explores "$image" "$examples/$config" "${options[@]}" --places 1000000
-        verdict "explore: $source $words, without bounds" "$(holds $?)"
+        wrong=$(holds $?)
+        explores "$image" "$examples/$config" "${options[@]}" --places 1000000 --livelock
+        verdict "explore: $source $words, without bounds" "$wrong$(holds $?)"
+        ;;
+    *,*--fair*,found*)
+        # (within bounds it takes a fair end to see that nobody gets on)
+        assembled "$source"
+        explores "$image" "$examples/$config" "${options[@]}" --places 1000000 --livelock --out "$work/found"
+        wrong=$(is_found $?)
+        grep -q ': nobody gets on: from there no schedule comes to an end$' "$work/out" ||
+            wrong="$wrong; it says '$(head -c 300 "$work/out")'"
+        "$board" run "$image" "$examples/$config" "$work/found" > "$work/ran" || wrong="$wrong; it doesn't run"
+        explores "$image" "$examples/$config" "${options[@]}" --places 1000000
+        [ $? = 0 ] && grep -qE '^warning: from [0-9]+ of them no schedule comes to an end' "$work/out" ||
+            wrong="$wrong; without --livelock it says '$(head -c 300 "$work/out")'"
+        verdict "explore: $source $words, nobody gets on" "$wrong"
         ;;
     *,*--fair*,*) ;;
     *,found*)
@@ -364,6 +381,7 @@ for option in "--fair 1" "--remember 1" "--shard 1/1" --shortest; do
     refuses "--places goes with none of --fair, --reach, --remember, --shard and --shortest" --places 10 $option
 done
 refuses "not known: there are more than --places places" --places 1
+refuses "--livelock goes with --places" --livelock
 refuses "--remember is a number of MiB from 0 to 4,096" --remember 4097
 refuses "--raises says how often lines may be raised, and --lines which" --raises 1
 refuses "--raises says how often lines may be raised, and --lines which" --lines 3
