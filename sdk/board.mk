@@ -28,7 +28,7 @@
 #                       many as there are seconds for
 #   make explore        searches all schedules within bounds for one under which the test of JOURNAL fails; TIME=60:
 #                       with more and more preemptions, and says after so many seconds what is known; PLACES=1000000:
-#                       all schedules, however many events and preemptions they have
+#                       all schedules, however many events and preemptions they have, and none from which none ends
 #   make shrink         leaves events out of the schedule that was found, as long as it fails
 #   make clean
 #
