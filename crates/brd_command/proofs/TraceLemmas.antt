@@ -430,8 +430,6 @@ not_asked (trace.NoEvents from to all) options start known is = (is, keeps known
 not_asked trace.NoSymbol options start known is = absurd is
 not_asked trace.NoWord options start known is = absurd is
 not_asked trace.TooMuch options start known is = absurd is
-not_asked trace.TooLong options start known is = absurd is
-not_asked trace.TooManySteps options start known is = absurd is
 not_asked trace.TooManyTouches options start known is = absurd is
 
 pub not_chosen : (fault : CommandFault) (options : TraceOptions) (start : Start) (known : Option (List ℕ))
@@ -455,8 +453,6 @@ not_chosen (fault.Trace trace.NoSuchFormat) options start known of = absurd of
 not_chosen (fault.Trace trace.NoSymbol) options start known of = (of, keeps known)
 not_chosen (fault.Trace trace.NoWord) options start known of = (of, keeps known)
 not_chosen (fault.Trace trace.TooMuch) options start known of = absurd of
-not_chosen (fault.Trace trace.TooLong) options start known of = absurd of
-not_chosen (fault.Trace trace.TooManySteps) options start known of = absurd of
 not_chosen (fault.Trace trace.TooManyTouches) options start known of = absurd of
 not_chosen (fault.Schedule a) options start known of = absurd of
 not_chosen (fault.Search a) options start known of = absurd of

@@ -39,7 +39,7 @@ use Rattle.brd_command.specs.StacksCommand.{WritesStacks}
 use Rattle.brd_command.specs.declared.trace_command.Part.{Part}
 use Rattle.brd_inputs.specs.declared.trace_fault.TraceFault.{TraceFault}
 use Rattle.brd_inputs.specs.declared.trace_fault.TraceFault.TheVariants.{NoEvents, NoSuchFormat, NoSymbol, NoWord}
-use Rattle.brd_inputs.specs.declared.trace_fault.TraceFault.TheVariants.{TooLong, TooManySteps, TooManyTouches, TooMuch}
+use Rattle.brd_inputs.specs.declared.trace_fault.TraceFault.TheVariants.{TooManyTouches, TooMuch}
 use Rattle.brd_command.specs.declared.trace_options.TraceFormat.{TraceFormat}
 use Rattle.brd_command.specs.declared.trace_options.TraceFormat.TheVariants.{Text, Json, Svg, Html, Lcov, Callgrind}
 use Rattle.brd_command.specs.declared.trace_options.TraceOptions.{TraceOptions}
@@ -94,8 +94,6 @@ KeepsFromTracing options start NoWord = words_asked options start ≡ Err no.NoW
 KeepsFromTracing options start TooMuch =
     (options.format ≡ Some Svg) × (options.summary ≡ false)
     × IsUndrawn start.board start.journal.events (first_of options) (end_of options (length start.journal.events))
-KeepsFromTracing options start TooLong = ⊥
-KeepsFromTracing options start TooManySteps = ⊥
 KeepsFromTracing options start TooManyTouches =
     (options.races ≡ true)
     × AreTooMany start.config.queues start.board start.journal.events (end_of options (length start.journal.events))

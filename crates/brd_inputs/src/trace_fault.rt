@@ -20,12 +20,6 @@ pub enum TraceFault {
     /// A picture has no room for so much.
     #[error("it has more to draw than a picture can show: choose fewer events by --from and --to")]
     TooMuch,
-    /// A page has no room for so many events.
-    #[error("it is more than a page can show: choose fewer events by --from and --to")]
-    TooLong,
-    /// A page has no room for what was tried.
-    #[error("it is more than a page can show: choose fewer events by --steps")]
-    TooManySteps,
     /// Races aren't looked for among so many touches.
     #[error("it has more touches of words, or more that orders them, than are kept: choose fewer events by --to")]
     TooManyTouches,
