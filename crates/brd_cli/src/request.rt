@@ -298,6 +298,7 @@ fn search_options_of<'a>(arguments: &ArgMatches<'a>) -> SearchOptions<'a>
         remember: number_or(arguments, "MIB", 0),
         places: number_or(arguments, "PLACES", 0),
         livelock: flag_of(arguments, "livelock"),
+        finals: flag_of(arguments, "finals"),
     }
 }
 

@@ -565,6 +565,11 @@ fn with_search<'a>(alloc: Global, command: Command<'a>) -> Result<Command<'a>, N
             "livelock",
             "With --places: fails where no schedule comes to an end any more",
         ))?
+        .arg(flag(
+            alloc,
+            "finals",
+            "With --places: if none fails, lists the consoles of all ends",
+        ))?
         .arg(option(
             alloc,
             "OUT",

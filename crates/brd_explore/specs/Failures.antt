@@ -1,7 +1,7 @@
 -- What of a board is a failure, by now or at the end of a schedule.
 use Rattle.std.specs.Prelude.{ℕ, zero, suc, ◌+◌, ◌%◌, ◌^◌, nat_lt, nat_le, ◌==◌, Bool, true, false, not, ◌&&◌, ◌||◌}
 use Rattle.std.specs.Prelude.{List, []}
-use Rattle.std.specs.Prelude.{◌∷◌, if◌then◌else◌, Option, Some, None, is_some}
+use Rattle.std.specs.Prelude.{◌∷◌, if◌then◌else◌, bytes_eq, Option, Some, None, is_some}
 use Rattle.std.specs.List.{list_any, starts_with}
 use Rattle.std.specs.Option.{option_or}
 use Rattle.brd_word.specs.declared.order.Order.{Order}
@@ -88,10 +88,11 @@ fails_by_now b (failure.Word address value) = false
 fails_by_now b (failure.Outside address least most) = not (is_between least most (word_of b address))
 fails_by_now b failure.On = false
 fails_by_now b failure.Ended = false
+fails_by_now b (failure.Unlisted texts) = false
 fails_by_now b (failure.At address) = some_below 9 (λ cpu. is_at address (registers_of b cpu))
 
--- A board shows a failure where it is the last one: the console lacks something, a word has another value, it is on, or
--- there is to be no end.
+-- A board shows a failure where it is the last one: the console lacks something, or is none of those that it may be, a
+-- word has another value, the board is on, or there is to be no end.
 unfoldable pub fails_at_last : BoardState → Failure → Bool
 fails_at_last b failure.Exception = false
 fails_at_last b failure.Deadlock = false
@@ -100,6 +101,7 @@ fails_at_last b (failure.Word address value) = not (is_value value (word_of b ad
 fails_at_last b (failure.Outside address least most) = false
 fails_at_last b failure.On = not b.kernel.off
 fails_at_last b failure.Ended = true
+fails_at_last b (failure.Unlisted texts) = not (list_any (bytes_eq b.kernel.console) texts)
 fails_at_last b (failure.At address) = false
 
 -- A board shows one of the failures.

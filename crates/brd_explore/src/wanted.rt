@@ -1,6 +1,7 @@
 //! What of a board is a failure, by now or at the end.
 
-ghost use Rattle.std.specs.Prelude.{◌≡◌, ◌⊎◌, true, false, not, option_map, IfOk, OnOk};
+ghost use Rattle.std.specs.Prelude.{◌≡◌, ◌⊎◌, true, false, not, bytes_eq, option_map, IfOk, OnOk};
+ghost use Rattle.std.specs.List.{list_any};
 ghost use Rattle.brd_board.specs.Board.{after};
 ghost use Rattle.brd_explore.specs.Failures.{
   nobody_goes,
@@ -69,6 +70,8 @@ pub enum Failure {
     On,
     /// There is an end.
     Ended,
+    /// At the end the console is none of these.
+    Unlisted(List<List<u8>>),
     /// The instruction at an address is the next one of who executes on some processor.
     At {
         /// The address.
@@ -264,7 +267,8 @@ impl Failure {
                 most,
             } => Ok(!is_between(*least, *most, word_at(board, *address))),
             Failure::At { address } => Ok(some_are_at(board, *address)),
-            Failure::Word { .. } | Failure::On | Failure::Ended => Ok(false),
+            Failure::Word { .. } | Failure::On => Ok(false),
+            Failure::Ended | Failure::Unlisted(_) => Ok(false),
         }
     }
 
@@ -280,8 +284,21 @@ impl Failure {
             Failure::Word { address, value } => !is_value(*value, word_at(board, *address)),
             Failure::On => !board.is_off(),
             Failure::Ended => true,
+            Failure::Unlisted(texts) => !is_listed(board.console(), texts.as_slice()),
         }
     }
+}
+
+/// Whether a console is one of some texts.
+fn is_listed(console: &[u8], texts: &[List<u8>]) -> bool
+    ensures { result ≡ list_any (bytes_eq console.now) texts.now }
+{
+    for text in texts {
+        if console == text.as_slice() {
+            return true;
+        }
+    }
+    false
 }
 
 /// Whether an exception was kept of some processor.

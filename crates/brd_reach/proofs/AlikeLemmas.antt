@@ -1,6 +1,6 @@
 -- Boards of which one lags behind the other by invisible instructions fail alike.
 use Rattle.std.proofs.Common.{◌≡◌, ℕ, ◌+◌, ◌-◌, ◌≤◌, Bool, true, false, not, List, [], ◌∷◌, refl, sym, ap, subst, ◌∙◌, arith}
-use Rattle.std.specs.Prelude.{◌%◌, ◌^◌, ◌==◌, ◌&&◌, ◌||◌, if◌then◌else◌, nat_lt, slice_index, slice_index_or, Option, None, Some, is_some}
+use Rattle.std.specs.Prelude.{◌%◌, ◌^◌, ◌==◌, ◌&&◌, ◌||◌, if◌then◌else◌, bytes_eq, nat_lt, slice_index, slice_index_or, Option, None, Some, is_some}
 use Rattle.std.specs.Option.{option_map}
 use Rattle.std.specs.List.{All, list_any}
 use Rattle.std.proofs.lemmas.Bool.{false≢true}
@@ -250,6 +250,7 @@ now-alike by b c (failure.Outside address least most) it guarded =
     ap (λ word. not (is_between least most word)) (word-alike by b c address it guarded)
 now-alike by b c failure.On it guarded = refl
 now-alike by b c failure.Ended it guarded = refl
+now-alike by b c (failure.Unlisted texts) it guarded = refl
 now-alike by b c (failure.At address) it guarded = absurd guarded
 
 last-alike : (by : Sharing) (b c : BoardState) (f : Failure) → Alike by b c → IsGuarded by f → fails_at_last c f ≡ fails_at_last b f
@@ -263,6 +264,8 @@ last-alike by b c (failure.Outside address least most) it guarded = refl
 last-alike by b c (failure.At address) it guarded = refl
 last-alike by b c failure.On it guarded = ap not it.off
 last-alike by b c failure.Ended it guarded = refl
+last-alike by b c (failure.Unlisted texts) it guarded =
+    ap (λ console. not (list_any (bytes_eq console) texts)) it.console
 
 any-same : {X : Type 0} (P : X → Type 0) (one two : X → Bool) (xs : List X) → All P xs → ((x : X) → P x → two x ≡ one x) →
     list_any two xs ≡ list_any one xs

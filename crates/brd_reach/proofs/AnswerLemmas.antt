@@ -43,6 +43,7 @@ guarded-stays old new (failure.Word address value) stays it = word-stays old new
 guarded-stays old new (failure.Outside address least most) stays it = word-stays old new address stays it
 guarded-stays old new failure.On stays it = tt
 guarded-stays old new failure.Ended stays it = tt
+guarded-stays old new (failure.Unlisted texts) stays it = tt
 guarded-stays old new (failure.At address) stays it = absurd it
 
 pub all-stay : (old new : Sharing) (failures : List Failure) → StaysShared old new → All (IsGuarded old) failures → All (IsGuarded new) failures

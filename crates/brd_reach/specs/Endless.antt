@@ -1,6 +1,6 @@
--- Boards from which no schedule comes to an end.
-use Rattle.std.specs.Prelude.{◌≡◌, ℕ, ◌-◌, false, List, [], ◌∷◌}
-use Rattle.std.specs.List.{fold}
+-- Whether a schedule comes to an end, and what the console is there.
+use Rattle.std.specs.Prelude.{◌≡◌, ℕ, ◌-◌, true, false, List, [], ◌∷◌, bytes_eq}
+use Rattle.std.specs.List.{fold, list_any}
 use Rattle.brd_board.specs.declared.event.Event.{Event}
 use Rattle.brd_board.specs.declared.event.Event.TheVariants.{Step, Tick, Raise}
 use Rattle.brd_board.specs.Board.{BoardState}
@@ -32,6 +32,22 @@ NeverEnds b left among =
     IsLinkSet b.links → (events preemptions : ℕ) (es : List Event) →
     IsWithin among (start b (bounds_of left events preemptions)) es →
     GoesOn (place_after (start b (bounds_of left events preemptions)) es)
+
+-- where a schedule comes to an end the console is one of some texts
+abbrev pub IsListed : List (List ℕ) → Place → Type 0
+IsListed texts p = is_end p.board p.left ≡ true → list_any (bytes_eq p.board.kernel.console) texts ≡ true
+
+-- That is so of each schedule from a board, whose links are a set, that has no more ticks and raises than so many,
+-- however many events and preemptions it has.
+abbrev pub AreAll : List (List ℕ) → BoardState → Left → List Event → Type 0
+AreAll texts b left among =
+    IsLinkSet b.links → (events preemptions : ℕ) (es : List Event) →
+    IsWithin among (start b (bounds_of left events preemptions)) es →
+    IsListed texts (place_after (start b (bounds_of left events preemptions)) es)
+
+-- that at an end there is another console than some is not to happen (private contracts alone name this)
+abbrev pub no_other : List (List ℕ) → Wanted
+no_other texts = record { failures = failure.Unlisted texts ∷ []; round = []; rounds = 0 }
 
 -- that there is an end is not to happen (private contracts alone name this)
 abbrev pub no_end : Wanted

@@ -60,6 +60,7 @@ IsGuarded by (failure.Word address value) = IsSharedWord by address
 IsGuarded by (failure.Outside address least most) = IsSharedWord by address
 IsGuarded by failure.On = Unit {0}
 IsGuarded by failure.Ended = Unit {0}
+IsGuarded by (failure.Unlisted texts) = Unit {0}
 IsGuarded by (failure.At address) = ⊥
 
 abbrev pub Guards : Sharing → Wanted → Type 0

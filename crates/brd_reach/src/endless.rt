@@ -1,7 +1,7 @@
-//! Boards from which no schedule comes to an end.
+//! Whether a schedule comes to an end, and what the console is there.
 
 ghost use Rattle.std.specs.Prelude.{◌≡◌, true, IfOk};
-ghost use Rattle.brd_reach.specs.Endless.{NeverEnds, no_end, rest_after, rest_of};
+ghost use Rattle.brd_reach.specs.Endless.{AreAll, NeverEnds, no_end, no_other, rest_after, rest_of};
 
 use crate::searching::{Reached, reach};
 use brd_base::{List, NoMemory};
@@ -34,6 +34,38 @@ fn no_end(alloc: Global) -> Result<Wanted, NoMemory>
 {
     let mut failures = List::new(alloc);
     failures.push(Failure::Ended)?;
+    Ok(Wanted {
+        failures,
+        round: List::new(alloc),
+        rounds: 0,
+    })
+}
+
+/// Whether it is found, going through so many places at most, that the console is one of these at each end to which a
+/// schedule from a board comes, however many events and preemptions it has, with so many ticks and raises.
+pub fn show_all(
+    alloc: Global,
+    start: &Board,
+    left: Left,
+    among: &[Event],
+    most: usize,
+    texts: List<List<u8>>,
+) -> Result<bool, NoMemory>
+    ensures { IfOk result (λ all. all ≡ true → AreAll texts start.now left among.now) }
+{
+    let wanted = no_other(alloc, texts)?;
+    match reach(alloc, start, left, among, &wanted, most)? {
+        Reached::Holds(_) => Ok(true),
+        Reached::Fails(_) | Reached::Unknown(_) => Ok(false),
+    }
+}
+
+/// That at an end there is another console than these is not to happen.
+fn no_other(alloc: Global, texts: List<List<u8>>) -> Result<Wanted, NoMemory>
+    ensures { IfOk result (λ wanted. wanted ≡ no_other texts) }
+{
+    let mut failures = List::new(alloc);
+    failures.push(Failure::Unlisted(texts))?;
     Ok(Wanted {
         failures,
         round: List::new(alloc),

@@ -1,6 +1,6 @@
 //! What is known of places of which none fails.
 
-use crate::ways::Ways;
+use crate::ways::{Shown, Ways};
 use brd_base::{List, NoMemory};
 use brd_board::Event;
 use brd_places::Places;
@@ -17,6 +17,19 @@ pub struct Held {
     pub hopeless: usize,
     /// The events that lead to the first of these.
     pub first: Option<List<Event>>,
+    /// The consoles of the ends, at most 64 of them.
+    pub finals: List<Final>,
+    /// Whether there are more.
+    pub more: bool,
+}
+
+/// A console of an end.
+#[derive(Drop)]
+pub struct Final {
+    /// What it is.
+    pub console: List<u8>,
+    /// The events that lead to an end that has it.
+    pub events: List<Event>,
 }
 
 /// What is known of places that were gone through.
@@ -32,7 +45,20 @@ pub(crate) fn held(alloc: Global, places: &Places, ways: &Ways) -> Result<Held, 
         ends: ways.ends(),
         hopeless,
         first,
+        finals: finals_of(alloc, places, ways.consoles())?,
+        more: ways.are_more(),
     })
+}
+
+/// The consoles of ends, each with the events that lead to it.
+fn finals_of(alloc: Global, places: &Places, consoles: &[Shown]) -> Result<List<Final>, NoMemory> {
+    let mut finals = List::new(alloc);
+    for shown in consoles {
+        let console = List::from_slice(alloc, shown.console.as_slice())?;
+        let events = places.path(shown.at)?;
+        finals.push(Final { console, events })?;
+    }
+    Ok(finals)
 }
 
 /// How many places don't lead on, and the index of the first of them.

@@ -16,7 +16,7 @@ mod unknown;
 mod visit;
 mod ways;
 
-pub use endless::{never_ends, rest_of};
-pub use held::Held;
+pub use endless::{never_ends, rest_of, show_all};
+pub use held::{Final, Held};
 pub use searching::{Reached, reach};
 pub use unknown::Unknown;

@@ -12,6 +12,7 @@ use brd_blocks::Sharing;
 use brd_board::Event;
 use brd_explore::Wanted;
 use brd_places::Places;
+use std::alloc::Global;
 
 /// What a round came to.
 #[derive(Clone, Copy, PartialEq, Eq)]
@@ -29,6 +30,7 @@ pub(crate) enum Round {
 
 /// Visits places, and those to which events lead from them, until all have been visited or one fails; at most so many.
 pub(crate) fn visit_all(
+    alloc: Global,
     places: &mut Places,
     ways: &mut Ways,
     sharing: &Sharing,
@@ -44,7 +46,7 @@ pub(crate) fn visit_all(
         if at >= places.len() {
             return Ok(Round::Holds);
         }
-        match visit(places, ways, at, sharing, words, among, wanted)? {
+        match visit(alloc, places, ways, at, sharing, words, among, wanted)? {
             Tried::Done => {}
             Tried::Fails => return Ok(Round::Fails(at)),
             Tried::Strays(cpu, count) => return Ok(Round::Strays(at, cpu, count)),

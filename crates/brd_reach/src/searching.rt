@@ -53,7 +53,16 @@ pub fn reach(
         let mut places = Places::new(alloc, start, left)?;
         let mut ways = Ways::new(alloc);
         let words = words.as_slice();
-        match visit_all(&mut places, &mut ways, &sharing, words, among, wanted, most)? {
+        match visit_all(
+            alloc,
+            &mut places,
+            &mut ways,
+            &sharing,
+            words,
+            among,
+            wanted,
+            most,
+        )? {
             Round::Holds => return Ok(Reached::Holds(held(alloc, &places, &ways)?)),
             Round::Fails(at) => return Ok(Reached::Fails(places.path(at)?)),
             Round::Strays(at, cpu, count) => {
@@ -107,7 +116,7 @@ fn guard(sharing: &mut Sharing, failure: &Failure) -> bool
             true
         }
         Failure::Exception | Failure::Deadlock | Failure::Console(_) => true,
-        Failure::On | Failure::Ended => true,
+        Failure::On | Failure::Ended | Failure::Unlisted(_) => true,
         Failure::At { .. } => false,
     }
 }

@@ -18,6 +18,7 @@ use brd_blocks::Sharing;
 use brd_board::{Board, Event};
 use brd_explore::{Bounds, Wanted};
 use brd_places::{Left, Places, mix};
+use std::alloc::Global;
 
 /// What was tried at a place came to.
 #[derive(Clone, Copy, PartialEq, Eq)]
@@ -35,6 +36,7 @@ pub(crate) enum Tried {
 /// Visits the place of an index: looks whether it fails, and tries all events that may come there. `words` are the
 /// addresses of the words by whose values places are told from each other at first sight.
 pub(crate) fn visit(
+    alloc: Global,
     places: &mut Places,
     ways: &mut Ways,
     at: usize,
@@ -52,7 +54,7 @@ pub(crate) fn visit(
     if wanted.fails_at(&board, bounds_of(left))? {
         return Ok(Tried::Fails);
     }
-    ways.come(stop_at(&board, left)?)?;
+    ways.come(alloc, stop_at(&board, left)?, board.console())?;
     for event in among {
         match try_event(places, ways, at, &board, left, sharing, words, *event)? {
             Tried::Done => {}

@@ -2,8 +2,11 @@
 //! is found by it is looked at again.)
 
 use crate::stop::Stop;
-use brd_base::NoMemory;
+use brd_base::{List, NoMemory};
 use std::alloc::Global;
+
+/// How many consoles of ends are kept at most (own choice).
+const MOST_CONSOLES: usize = 64;
 
 /// A way from the place of an index to that of another one.
 #[derive(Clone, Copy)]
@@ -18,6 +21,19 @@ pub(crate) struct Ways {
     ways: Vec<Way>,
     /// Of each place, in their order, whether schedules stop there.
     stops: Vec<Stop>,
+    /// The consoles of ends, each with the index of the first place that has it.
+    consoles: Vec<Shown>,
+    /// Whether there are more of them.
+    more: bool,
+}
+
+/// A console of an end.
+#[derive(Drop)]
+pub(crate) struct Shown {
+    /// The index of the first place that has it.
+    pub at: usize,
+    /// What it is.
+    pub console: List<u8>,
 }
 
 impl Ways {
@@ -26,13 +42,45 @@ impl Ways {
         Ways {
             ways: Vec::new(alloc),
             stops: Vec::new(alloc),
+            consoles: Vec::new(alloc),
+            more: false,
         }
     }
 
-    /// Comes to the next place.
-    pub fn come(&mut self, stop: Stop) -> Result<(), NoMemory> {
+    /// Comes to the next place, which has this console.
+    pub fn come(&mut self, alloc: Global, stop: Stop, console: &[u8]) -> Result<(), NoMemory> {
+        if stop == Stop::End {
+            self.show(alloc, console)?;
+        }
         self.stops.push(stop)?;
         Ok(())
+    }
+
+    /// Keeps the console of an end, which is the next place, unless it is kept.
+    fn show(&mut self, alloc: Global, console: &[u8]) -> Result<(), NoMemory> {
+        for shown in self.consoles.as_slice() {
+            if shown.console.as_slice() == console {
+                return Ok(());
+            }
+        }
+        if self.consoles.len() >= MOST_CONSOLES {
+            self.more = true;
+            return Ok(());
+        }
+        let console = List::from_slice(alloc, console)?;
+        let at = self.stops.len();
+        self.consoles.push(Shown { at, console })?;
+        Ok(())
+    }
+
+    /// The consoles of ends, each with the index of the first place that has it.
+    pub fn consoles(&self) -> &[Shown] {
+        self.consoles.as_slice()
+    }
+
+    /// Whether there are more consoles of ends than were kept.
+    pub fn are_more(&self) -> bool {
+        self.more
     }
 
     /// A way leads from a place to a place.

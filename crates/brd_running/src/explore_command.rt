@@ -1,6 +1,6 @@
 //! The command `explore`.
 
-ghost use Rattle.std.specs.Prelude.{◌≡◌, ◌++◌, codes, option_map, true, IfOk, IfSome, MatchResult, None, Some};
+ghost use Rattle.std.specs.Prelude.{◌≡◌, ◌++◌, codes, option_map, true, IfErr, IfOk, IfSome, MatchResult, None, Some};
 ghost use Rattle.brd_running.specs.ExploreCommand.{ExploreFilesEnd, IsExplored, IsTold, KeepsFromSearching};
 ghost use Rattle.brd_running.specs.ExploreCommand.{Begins, KeepsFromExploring, Tells, failed};
 ghost use Rattle.brd_running.specs.ExploreCommand.{IsReached, IsUnknown, IsUntoldOfAll, left_by};
@@ -10,17 +10,17 @@ ghost use Rattle.brd_search.specs.Shown.{shown};
 ghost use Rattle.brd_board.specs.Board.{BoardState};
 
 use crate::saving::{is_over, journal_text, save, tell, try_out};
-use brd_base::NoMemory;
+use brd_base::{List, NoMemory};
 use brd_board::{Board, Event};
 use brd_explore::{Bounds, Counts, Watch};
 use brd_inputs::{CommandFault, Files, Loaded, Pair, open_pair, read_board};
 use brd_mem::Symbol;
 use brd_places::Left;
 use brd_progress::Progress;
-use brd_reach::{Held, Reached, Unknown, never_ends, reach, rest_of};
+use brd_reach::{Final, Held, Reached, Unknown, never_ends, reach, rest_of, show_all};
 use brd_search::{
-    Extent, Plan, SearchFault, SearchOptions, plan_of, put_all_hold, put_found, put_hung, put_none,
-    search, shown_events,
+    Extent, Plan, SearchFault, SearchOptions, plan_of, put_all_hold, put_final, put_final_count,
+    put_found, put_hung, put_none, search, shown_events,
 };
 use brd_threads::processors;
 use std::alloc::Global;
@@ -191,17 +191,81 @@ fn told_held(
         (λ told. TellsHeld plan.now board.now told.text.items (option_map (λ text. text.items) told.journal))
         IsUntoldOfAll }
 {
+    let Held {
+        places,
+        ends,
+        hopeless,
+        first,
+        finals,
+        more,
+    } = held;
     let extent = Extent {
-        places: held.places as u64,
-        ends: held.ends as u64,
-        hopeless: held.hopeless as u64,
+        places: places as u64,
+        ends: ends as u64,
+        hopeless: hopeless as u64,
     };
-    if let Some(events) = held.first {
+    if let Some(events) = first {
         if plan.livelock {
             return told_hung(alloc, board, symbols, plan, events.as_slice());
         }
     }
-    Ok(told_hold(alloc, symbols, plan, extent)?)
+    let listed = if plan.finals {
+        finals_text(alloc, board, symbols, plan, finals.as_slice(), more)?
+    } else {
+        Vec::new(alloc)
+    };
+    Ok(told_hold(alloc, symbols, plan, extent, &listed)?)
+}
+
+/// The consoles of all ends, in words: that there is no other is found by one more search.
+fn finals_text(
+    alloc: Global,
+    board: &Board,
+    symbols: &[Symbol],
+    plan: &Plan,
+    finals: &[Final],
+    more: bool,
+) -> Result<Vec<u8>, CommandFault>
+    ensures { IfErr result IsUntoldOfAll }
+{
+    if !more && !are_all(alloc, board, plan, finals)? {
+        return Err(CommandFault::Search(SearchFault::Unlearned));
+    }
+    Ok(text_of_finals(alloc, board, symbols, finals, more)?)
+}
+
+/// Whether it is found that these are the consoles of all ends.
+fn are_all(alloc: Global, board: &Board, plan: &Plan, finals: &[Final]) -> Result<bool, NoMemory> {
+    let mut texts = List::new(alloc);
+    for each in finals {
+        texts.push(List::from_slice(alloc, each.console.as_slice())?)?;
+    }
+    show_all(
+        alloc,
+        board,
+        left_of(plan.bounds),
+        plan.among.as_slice(),
+        plan.places as usize,
+        texts,
+    )
+}
+
+/// The consoles of ends, in words.
+fn text_of_finals(
+    alloc: Global,
+    board: &Board,
+    symbols: &[Symbol],
+    finals: &[Final],
+    more: bool,
+) -> Result<Vec<u8>, NoMemory> {
+    let mut out = Vec::new(alloc);
+    put_final_count(alloc, finals.len() as u64, more, &mut out)?;
+    for each in finals {
+        let console = each.console.as_slice();
+        let events = each.events.as_slice();
+        put_final(alloc, symbols, board, console, events, &mut out)?;
+    }
+    Ok(out)
 }
 
 /// What is told of events that lead to a board from which no schedule comes to an end, and their journal.
@@ -289,18 +353,20 @@ fn fault_of(why: Unknown) -> SearchFault
     }
 }
 
-/// What is told where no schedule fails, however many events and preemptions it has.
+/// What is told where no schedule fails, however many events and preemptions it has, and what is listed below it.
 fn told_hold(
     alloc: Global,
     symbols: &[Symbol],
     plan: &Plan,
     extent: Extent,
+    listed: &[u8],
 ) -> Result<Told, NoMemory>
     ensures { IfOk result
         (λ told. Begins (codes "none ") told.text.items × (option_map (λ text. text.items) told.journal ≡ None)) }
 {
     let mut rest = Vec::new(alloc);
     put_all_hold(alloc, symbols, plan, extent, &mut rest)?;
+    rest.extend_from_slice(listed)?;
     let text = joined(alloc, ALL_HOLD, &rest)?;
     Ok(Told {
         text,

@@ -22,7 +22,7 @@ use Rattle.brd_explore.specs.declared.wanted.Wanted.{Wanted}
 use Rattle.brd_search.specs.Escapes.{bytes_of}
 use Rattle.brd_search.specs.declared.fault.SearchFault.{SearchFault}
 use Rattle.brd_search.specs.declared.fault.SearchFault.TheVariants.{NoMemory, Events, Fair, Remember, Lines, NoLines}
-use Rattle.brd_search.specs.declared.fault.SearchFault.TheVariants.{Twice, NoHandler, Livelock, Places, Reach}
+use Rattle.brd_search.specs.declared.fault.SearchFault.TheVariants.{Twice, NoHandler, Ends, Places, Reach}
 use Rattle.brd_search.specs.declared.fault.SearchFault.TheVariants.{Word, NoSymbol, Console, Shard, Raises as BadRaises}
 use Rattle.brd_search.specs.declared.raises.Raises.{Raises}
 use Rattle.brd_search.specs.declared.options.Looks.{Looks}
@@ -298,7 +298,7 @@ is_plain options =
 -- They don't ask for such a search, nor for boards from which no schedule comes to an end, or they ask for nothing
 -- else.
 abbrev pub places_fit : SearchOptions → Bool
-places_fit options = if options.places == 0 then not options.livelock else is_plain options
+places_fit options = if options.places == 0 then not (options.livelock || options.finals) else is_plain options
 
 -- A plan is what options ask for, on a board of so many processors whose image has these symbols. Each line that may be
 -- raised has a handler there, and is named once.
@@ -318,6 +318,7 @@ pub record IsPlan (options : SearchOptions) (b : BoardState) (cpus : ℕ) (symbo
     pub remember : plan.remember ≡ options.remember
     pub places : plan.places ≡ options.places
     pub livelock : plan.livelock ≡ options.livelock
+    pub finals : plan.finals ≡ options.finals
     pub plain : places_fit options ≡ true
 
 -- The lines of `--lines` aren't those of the raises, for this reason.
@@ -344,7 +345,7 @@ KeepsFromPlanning options b cpus symbols Twice = IsUnfit options cpus is_twice
 KeepsFromPlanning options b cpus symbols NoHandler = IsUnfit options cpus (list_any (is_idle b))
 KeepsFromPlanning options b cpus symbols Shard = shard_of (text_of options.shard) ≡ None
 KeepsFromPlanning options b cpus symbols Places = (0 < options.places) × (is_plain options ≡ false)
-KeepsFromPlanning options b cpus symbols Livelock = (options.places ≡ 0) × (options.livelock ≡ true)
+KeepsFromPlanning options b cpus symbols Ends = (options.places ≡ 0) × ((options.livelock || options.finals) ≡ true)
 KeepsFromPlanning options b cpus symbols fault = KeepsFromWanting options.looks options.sizes.fair symbols fault
 
 -- Only private contracts name the next ones.
@@ -352,13 +353,13 @@ KeepsFromPlanning options b cpus symbols fault = KeepsFromWanting options.looks 
 -- options ask for a search without bounds, and for more; or for what such a search alone knows, without one
 abbrev pub DontFit : SearchOptions → SearchFault → Type 0
 DontFit options Places = (0 < options.places) × (is_plain options ≡ false)
-DontFit options Livelock = (options.places ≡ 0) × (options.livelock ≡ true)
+DontFit options Ends = (options.places ≡ 0) × ((options.livelock || options.finals) ≡ true)
 DontFit options _ = ⊥
 
 -- what such a search alone knows is asked for
-abbrev pub IsOfLivelock : Bool → SearchFault → Type 0
-IsOfLivelock livelock Livelock = livelock ≡ true
-IsOfLivelock livelock _ = ⊥
+abbrev pub IsOfEnds : Bool → SearchFault → Type 0
+IsOfEnds asked Ends = asked ≡ true
+IsOfEnds asked _ = ⊥
 
 -- the bounds that options give, whose numbers are within limits
 pub record IsSized (options : SearchOptions) (said : Raises) (bounds : Bounds) : Type 0 where

@@ -60,8 +60,8 @@ pub enum SearchFault {
     #[error("--places goes with none of --fair, --reach, --remember, --shard and --shortest")]
     Places,
     /// It is asked for what a search without bounds alone knows.
-    #[error("--livelock goes with --places")]
-    Livelock,
+    #[error("--livelock and --finals go with --places")]
+    Ends,
     /// A search without bounds has come to no answer: there are more places.
     #[error("not known: there are more than --places places")]
     MorePlaces,

@@ -23,5 +23,8 @@ pub use plan::{Plan, plan_of};
 pub use raises::Raises;
 pub use searching::{Searched, search};
 pub use shown::shown_events;
-pub use told::{Extent, put_all_hold, put_failure, put_found, put_hung, put_none, put_schedule};
+pub use told::{
+    Extent, put_all_hold, put_failure, put_final, put_final_count, put_found, put_hung, put_none,
+    put_schedule,
+};
 pub use wanting::wanted_of;

@@ -52,4 +52,6 @@ pub struct SearchOptions<'a> {
     pub places: u32,
     /// Whether such a search also looks for a board from which no schedule comes to an end.
     pub livelock: bool,
+    /// Whether such a search, if none fails, lists the consoles of all ends.
+    pub finals: bool,
 }

@@ -3,7 +3,7 @@
 ghost use Rattle.std.specs.Prelude.{MatchResult};
 ghost use Rattle.std.specs.Prelude.{◌≡◌, true, false};
 ghost use Rattle.brd_search.specs.Plans.{IsPlan, KeepsFromPlanning, IsSized, IsOfSizes, IsShard, IsNoShard, text_of};
-ghost use Rattle.brd_search.specs.Plans.{DontFit, IsOfLivelock, is_plain, places_fit};
+ghost use Rattle.brd_search.specs.Plans.{DontFit, IsOfEnds, is_plain, places_fit};
 
 use crate::coming::{check_lines, may_come};
 use crate::fault::SearchFault;
@@ -44,6 +44,8 @@ pub struct Plan {
     pub places: u32,
     /// Whether such a search also looks for a board from which no schedule comes to an end.
     pub livelock: bool,
+    /// Whether such a search, if none fails, lists the consoles of all ends.
+    pub finals: bool,
 }
 
 /// Written out, so that a function that lets one go is proved with a call.
@@ -58,6 +60,7 @@ impl Drop for Plan {
             remember: _,
             places: _,
             livelock: _,
+            finals: _,
         } = self;
     }
 }
@@ -93,16 +96,17 @@ pub fn plan_of(
         remember: options.remember,
         places: options.places,
         livelock: options.livelock,
+        finals: options.finals,
     })
 }
 
 /// A search without bounds goes through the whole, and to no fair end; it finds what it finds, remembers all places,
-/// and sees no single instructions. It alone knows of boards from which no schedule comes to an end.
+/// and sees no single instructions. It alone knows of boards from which no schedule comes to an end, and of all ends.
 fn check_places(options: &SearchOptions<'_>) -> Result<(), SearchFault>
     ensures { MatchResult result (λ _. places_fit options.now ≡ true) (DontFit options.now) }
 {
     if options.places == 0 {
-        return check_bounded(options.livelock);
+        return check_bounded(options.livelock || options.finals);
     }
     if is_plain(options) {
         return Ok(());
@@ -110,12 +114,12 @@ fn check_places(options: &SearchOptions<'_>) -> Result<(), SearchFault>
     Err(SearchFault::Places)
 }
 
-/// A search with bounds doesn't look for boards from which no schedule comes to an end.
-fn check_bounded(livelock: bool) -> Result<(), SearchFault>
-    ensures { MatchResult result (λ _. livelock ≡ false) (IsOfLivelock livelock) }
+/// A search with bounds knows neither.
+fn check_bounded(asked: bool) -> Result<(), SearchFault>
+    ensures { MatchResult result (λ _. asked ≡ false) (IsOfEnds asked) }
 {
-    if livelock {
-        return Err(SearchFault::Livelock);
+    if asked {
+        return Err(SearchFault::Ends);
     }
     Ok(())
 }

@@ -150,6 +150,45 @@ const HOPELESS: &str =
 const NO_END_PLACE: &str =
     "warning: none is an end, so nothing that should be so at the end was looked at; more --ticks may help\n";
 
+/// Puts at the end the console of an end, and below that the schedule to it.
+pub fn put_final(
+    alloc: Global,
+    symbols: &[Symbol],
+    board: &Board,
+    console: &[u8],
+    events: &[Event],
+    out: &mut Vec<u8>,
+) -> Result<(), NoMemory> {
+    put_quoted(console, out)?;
+    put(out, " at an end after ")?;
+    put_count(alloc, out, events.len() as u64, "event")?;
+    put(out, "\n")?;
+    let mut copy = board.try_copy()?;
+    put_schedule(alloc, symbols, &mut copy, events, out)
+}
+
+/// Puts a line at the end of how many consoles there are at the ends; `more` says that there are more than these.
+pub fn put_final_count(
+    alloc: Global,
+    count: u64,
+    more: bool,
+    out: &mut Vec<u8>,
+) -> Result<(), NoMemory> {
+    if more {
+        put(out, "more than ")?;
+    }
+    put_count(alloc, out, count, "console")?;
+    put(out, " at the ends")?;
+    put(
+        out,
+        if more {
+            ", not all below\n"
+        } else {
+            ", and no other\n"
+        },
+    )
+}
+
 /// Puts at the end that from some board no schedule comes to an end, as what follows "fails ": after how many events it
 /// is there; and below that the schedule to it.
 pub fn put_hung(
@@ -203,6 +242,7 @@ fn put_kind(
         Failure::Deadlock => put(out, "a deadlock"),
         Failure::On => put(out, "a board that is on at the end"),
         Failure::Ended => put(out, "an end"),
+        Failure::Unlisted(_) => put(out, "a console that isn't listed"),
         Failure::Console(text) => {
             put(out, "a console that isn't ")?;
             put_quoted(text.as_slice(), out)
@@ -360,6 +400,7 @@ pub fn put_failure(
         }
         Failure::On => put(out, "the board is on at the end"),
         Failure::Ended => put(out, "an end"),
+        Failure::Unlisted(_) => put(out, "the console isn't listed"),
         Failure::Word { address, value } => {
             put_word(alloc, symbols, board, *address, out)?;
             put(out, ", not ")?;

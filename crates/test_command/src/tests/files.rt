@@ -168,6 +168,7 @@ const SEARCH: SearchOptions<'static> = SearchOptions {
     remember: 0,
     places: 0,
     livelock: false,
+    finals: false,
 };
 
 /// The options of a journal that is made shorter.

@@ -35,6 +35,7 @@ const OPTIONS: SearchOptions = SearchOptions {
     remember: 0,
     places: 0,
     livelock: false,
+    finals: false,
 };
 
 /// Options, and what is wrong with them.
@@ -79,7 +80,14 @@ const FAULTS: &[(SearchOptions<'static>, SearchFault)] = &[
             livelock: true,
             ..OPTIONS
         },
-        SearchFault::Livelock,
+        SearchFault::Ends,
+    ),
+    (
+        SearchOptions {
+            finals: true,
+            ..OPTIONS
+        },
+        SearchFault::Ends,
     ),
     (
         SearchOptions {

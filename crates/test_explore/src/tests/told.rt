@@ -119,6 +119,7 @@ fn options_of(case: &Case) -> SearchOptions<'static> {
         remember: 0,
         places: 0,
         livelock: false,
+        finals: false,
     }
 }
 
