@@ -5,3 +5,4 @@ pub mod WalkLemmas
 pub mod LoopLemmas
 pub mod RoundLemmas
 pub mod AnswerLemmas
+pub mod EndlessLemmas
