@@ -232,6 +232,21 @@ while IFS='|' read -r source config words told how; do
     esac
 done < $examples/cases
 
+# ---- The consoles of all ends: those of the race, each with its schedule; of the repaired program the right one.
+
+ends() {
+    local wanted=$1 wrong=
+    shift
+    explores "$@" --places 100000 --finals || wrong="; status $?"
+    [ "$(sed -n 's/^\(".*"\) at an end after [0-9]* events$/\1/p' "$work/out" | sort | tr -d '\n')" = "$wanted" ] ||
+        wrong="$wrong; it says '$(head -c 500 "$work/out")'"
+    verdict "explore: $1, the consoles of all ends" "$wrong"
+}
+"$board" asm examples/lost_update/racy.s "$work/racy.elf"
+"$board" asm examples/lost_update/repaired.s "$work/repaired.elf"
+ends '"3""4""5""6""7""8""9"' "$work/racy.elf" examples/lost_update/racy.cfg
+ends '"9"' "$work/repaired.elf" examples/lost_update/repaired.cfg
+
 # ---- The same board in the other byte order: as many schedules, and the words are those of its own order.
 
 fair=0
@@ -466,6 +481,7 @@ fi
 
 if have python3 "searches beside the model"; then
     check_script "searches beside the model" tests/model/searches "$board" --boards 60
+    check_script "searches without bounds beside the model" tests/model/endless "$board" --boards 40
 fi
 
 summary

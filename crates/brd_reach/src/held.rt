@@ -33,7 +33,7 @@ pub struct Final {
 }
 
 /// What is known of places that were gone through.
-pub(crate) fn held(alloc: Global, places: &Places, ways: &Ways) -> Result<Held, NoMemory> {
+pub(crate) fn what_holds(alloc: Global, places: &Places, ways: &Ways) -> Result<Held, NoMemory> {
     let lead = ways.lead_on(alloc)?;
     let (hopeless, first) = hopeless_of(lead.as_slice());
     let first = match first {

@@ -4,7 +4,7 @@ ghost use Rattle.std.specs.Prelude.{◌≡◌, IfOk, IfSome, List as ListOf, tru
 ghost use Rattle.brd_blocks.specs.Owning.{StayShared, sharing_of};
 ghost use Rattle.brd_reach.specs.Reaching.{Guards, IsGuarded, IsSharedWord, ReachedSo};
 
-use crate::held::{Held, held};
+use crate::held::{Held, what_holds};
 use crate::round::{Round, visit_all};
 use crate::unknown::Unknown;
 use crate::ways::Ways;
@@ -63,7 +63,7 @@ pub fn reach(
             wanted,
             most,
         )? {
-            Round::Holds => return Ok(Reached::Holds(held(alloc, &places, &ways)?)),
+            Round::Holds => return Ok(Reached::Holds(what_holds(alloc, &places, &ways)?)),
             Round::Fails(at) => return Ok(Reached::Fails(places.path(at)?)),
             Round::Strays(at, cpu, count) => {
                 let board = places.board(at)?;
