@@ -50,7 +50,9 @@ pub(crate) fn operand_fault<'a>(
         }
         if let Some(found) = kind_fault(kind_at(kinds, place), name, rest) {
             return Some(match kind_at(kinds, place) {
-                Kind::Address => with_line(found, b"found ~ without a base: write |", parts),
+                Kind::Address if place_of(rest, b'(').is_none() => {
+                    with_line(found, b"found ~ without a base: write |", parts)
+                }
                 _ => found,
             });
         }
