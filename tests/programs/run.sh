@@ -34,6 +34,31 @@ example=examples/fault/fault
 "$board" run "$work/image" $example.cfg $example.journal > "$work/out" 2> "$work/err"
 check "run: a task that has ended by an exception" 0 $example.report \
     "board: warning: the run: task 1 has ended by an exception, AdEL at 0x80000008: trace --summary says more" $?
+# ended NAME SOURCE WARNING: what is warned of a task that ends so.
+ended() {
+    printf '%b' "$2" > "$work/ended.s"
+    "$board" try --steps 100000 --keep "$work/ended" "$work/ended.s" > "$work/out" 2> "$work/err"
+    "$board" asm "$work/ended.s" "$work/ended.elf" 2> "$work/err"
+    "$board" run "$work/ended.elf" "$work/ended.cfg" "$work/ended.journal" > "$work/out" 2> "$work/err"
+    verdict "run: $1" "$(grep -qxF "board: warning: the run: task 1 has ended by an exception, $3" "$work/err" ||
+        cat "$work/err")"
+}
+# shellcheck disable=SC2016
+{
+    ended "a task whose function returns" 'main: jr $ra\nnop\n' \
+        "IBE at 0x00000000: its function has returned (end it by ext_tsk or ext_ker)"
+    ended "a jump by a register" 'main: lui $t9, 0x1234\njr $t9\nnop\n' \
+        "IBE at 0x12340000, which is in \$t9: trace --summary says more"
+    ended "a jump to a halfword" 'main: lui $t9, 0x8000\naddiu $t9, $t9, 2\njr $t9\nnop\n' \
+        "AdEL at 0x80000002, which is in \$t9: trace --summary says more"
+    ended "a jump by two registers" 'main: lui $t9, 0x1234\nlui $t8, 0x1234\njr $t9\nnop\n' \
+        "IBE at 0x12340000: trace --summary says more"
+    ended "a run off the end" 'main: nop\n' \
+        "IBE at 0x80010000, behind the last word of RAM: it has run off the end of the program"
+    ended "a jump into data" 'main: b x\nnop\nx: .word 5\n' \
+        "RI at 0x80000008, where no instruction lies: trace --summary says more"
+    ended "a branch in a slot" 'main: b main\nb main\nnop\n' "RI at 0x80000004: trace --summary says more"
+}
 
 # The files are opened in the order of the arguments, before any is read.
 lay hello many_steps_in_a_row

@@ -5,8 +5,28 @@ use crate::finding::{Finding, told};
 use crate::hint::FaultHint;
 use brd_base::BASE;
 use brd_board::{Board, Fault, Standing, TaskState};
-use brd_exec::ExceptionCode;
+use brd_exec::{Context, ExceptionCode};
+use brd_isa::{Register, decode, register_name};
 use brd_mem::{Image, Segment};
+
+/// What is said of a task that an exception has ended.
+const ENDED: &[u8] = b"task ? has ended by an exception, ~ at @: trace --summary says more";
+
+/// The same, where its function has returned to 0, as $ra is in the beginning.
+const RETURNED: &[u8] =
+    b"task ? has ended by an exception, ~ at @: its function has returned (end it by ext_tsk or ext_ker)";
+
+/// The same, where a jump may have led there by a register.
+const HELD: &[u8] =
+    b"task ? has ended by an exception, ~ at @, which is in $^: trace --summary says more";
+
+/// The same, where it went on through all of RAM.
+const RAN_OFF: &[u8] =
+    b"task ? has ended by an exception, ~ at @, behind the last word of RAM: it has run off the end of the program";
+
+/// The same, where what lies there is no instruction.
+const DATA: &[u8] =
+    b"task ? has ended by an exception, ~ at @, where no instruction lies: trace --summary says more";
 
 /// The last exception of a processor, and whom it has ended or stopped: nothing where there was none.
 pub fn end_warning(board: &Board, cpu: u8) -> FaultHint {
@@ -14,26 +34,82 @@ pub fn end_warning(board: &Board, cpu: u8) -> FaultHint {
         return FaultHint::none();
     };
     let stopped = matches!(board.standing(cpu), Some(Standing::Stopped));
-    let (template, number) = if stopped {
-        (
-            b"processor ? is stopped by an exception of its handler, ~ at @: trace --summary says more".as_slice(),
-            cpu as u64,
-        )
+    let found = if stopped {
+        let template =
+            b"processor ? is stopped by an exception of its handler, ~ at @: trace --summary says more";
+        Finding::at(&[], template, name_of(fault.code)).with_number(cpu as u64)
     } else if let Some(id) = task_of(board, cpu, fault) {
-        (
-            b"task ? has ended by an exception, ~ at @: trace --summary says more".as_slice(),
-            id as u64,
-        )
+        of_task(board, id, fault).with_number(id as u64)
     } else {
-        (
-            b"a task of processor ? has ended by an exception, ~ at @: trace --summary says more".as_slice(),
-            cpu as u64,
-        )
+        let template =
+            b"a task of processor ? has ended by an exception, ~ at @: trace --summary says more";
+        Finding::at(&[], template, name_of(fault.code)).with_number(cpu as u64)
     };
-    let found = Finding::at(&[], template, name_of(fault.code))
-        .with_number(number)
-        .with_address(place_of(fault) as u64);
+    let found = found.with_address(place_of(fault) as u64);
     told(b"the run", None, None, Some(found))
+}
+
+/// What is said of a task that an exception has ended.
+fn of_task(board: &Board, id: u16, fault: Fault) -> Finding<'static> {
+    let name = name_of(fault.code);
+    let place = place_of(fault);
+    let ended = Finding::at(&[], ENDED, name);
+    let Some(task) = board.task(id) else {
+        return ended;
+    };
+    if is_data(board, fault) {
+        return Finding::at(&[], DATA, name);
+    }
+    if !is_fetch(fault) {
+        return ended;
+    }
+    if place == 0 && task.context.read(Register::low(31)) == 0 {
+        return Finding::at(&[], RETURNED, name);
+    }
+    if let Some(register) = holder(&task.context, place) {
+        return Finding::at(&[], HELD, name).with_other(register_name(register));
+    }
+    if is_end(board, place) {
+        return Finding::at(&[], RAN_OFF, name);
+    }
+    ended
+}
+
+/// Whether an exception is one of a word that stands for no instruction.
+fn is_data(board: &Board, fault: Fault) -> bool {
+    match (fault.code, board.aligned_word(place_of(fault))) {
+        (ExceptionCode::RI, Some(word)) => decode(word).is_none(),
+        _ => false,
+    }
+}
+
+/// Whether an exception is one of a fetch.
+fn is_fetch(fault: Fault) -> bool {
+    match fault.code {
+        ExceptionCode::IBE => true,
+        ExceptionCode::AdEL => place_of(fault) % 4 != 0,
+        _ => false,
+    }
+}
+
+/// The register that has this word, if one alone has it.
+fn holder(context: &Context, word: u32) -> Option<Register> {
+    let mut found = None;
+    for number in 1..32u32 {
+        let register = Register::low(number);
+        if context.read(register) == word {
+            if found.is_some() {
+                return None;
+            }
+            found = Some(register);
+        }
+    }
+    found
+}
+
+/// Whether RAM ends before an address.
+fn is_end(board: &Board, address: u32) -> bool {
+    board.aligned_word(address).is_none() && board.aligned_word(address.wrapping_sub(4)).is_some()
 }
 
 /// That a task goes on, or has ended, at an address of RAM at which nothing of the program lies, nor before it: nothing
