@@ -5,6 +5,7 @@
 //! text, and `specs/Tries.antt` how they stand together.
 #![tactic(auto)]
 
+mod arrivals;
 mod config;
 mod options;
 mod summary;

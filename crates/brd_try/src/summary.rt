@@ -1,9 +1,11 @@
 //! What stands at the end, in words.
 
+use crate::arrivals::Arrivals;
 use crate::turning::Turned;
 use brd_base::{BASE, NoMemory};
-use brd_board::{Board, TaskState, TaskView};
+use brd_board::{Board, Event, TaskState, TaskView};
 use brd_config::Config;
+use brd_happening::Before;
 use brd_journal::Journal;
 use brd_listing::Places;
 use brd_mem::{Image, Segment};
@@ -16,8 +18,8 @@ use brd_trace::Tracer;
 use brd_verdicts::{Refused, findings_of};
 use std::alloc::Global;
 
-/// What stands at the end of a journal, as a summary of its trace tells it, which stacks have overflowed, and which
-/// tasks have run off the end of the program.
+/// What stands at the end of a journal, as a summary of its trace tells it, how tasks came to where they ended by
+/// exceptions, which stacks have overflowed, and which tasks have run off the end of the program.
 pub(crate) fn summary(
     alloc: Global,
     image: &Image,
@@ -28,7 +30,11 @@ pub(crate) fn summary(
 ) -> Result<Vec<u8>, NoMemory> {
     let mut out = Vec::new(alloc);
     let start = boot.try_copy()?;
+    let first = boot.try_copy()?;
     put_summary(alloc, image, boot, &turned.journal, &mut out)?;
+    if has_faults(&turned.board) {
+        put_arrivals(alloc, image, first, &turned.journal, &mut out)?;
+    }
     put_overflow(alloc, image, config, start, &turned.journal, &mut out)?;
     for before in 0..tasks {
         put_runaway(alloc, image, &turned.board, before as u16 + 1, &mut out)?;
@@ -96,6 +102,56 @@ fn put_meant(refused: &[Refused], out: &mut Vec<u8>) -> Result<(), NoMemory> {
 const MEANT: &[u8] =
     b"  (on MARS and SPIM 1 prints an integer, 4 a string, 11 a character, 10 ends: here 40 is \
 put_chr, which writes a character, 3 ext_tsk and 41 ext_ker, which end a task and the board)\n";
+
+/// Whether a processor of a board has had an exception.
+fn has_faults(board: &Board) -> bool {
+    for cpu in 1..9u8 {
+        if board.last_fault(cpu).is_some() {
+            return true;
+        }
+    }
+    false
+}
+
+/// Puts lines at the end that say by which branch or jump somebody came to where the last exception of a processor was
+/// raised, if that was of a fetch or of a word that stands for no instruction.
+fn put_arrivals(
+    alloc: Global,
+    image: &Image,
+    boot: Board,
+    journal: &Journal,
+    out: &mut Vec<u8>,
+) -> Result<(), NoMemory> {
+    let arrivals = arrivals_of(alloc, boot, journal)?;
+    let symbols = Places::new(alloc, image.symbols.as_slice())?;
+    let names = Names::new(&symbols, image.segments.as_slice());
+    arrivals.put_all(names, alloc, out)
+}
+
+/// How the tasks and handlers of a journal came where they came.
+fn arrivals_of(alloc: Global, boot: Board, journal: &Journal) -> Result<Arrivals, NoMemory> {
+    let mut board = boot;
+    let mut arrivals = Arrivals::new(alloc);
+    for others in 0..journal.len() {
+        if let Some(event) = journal.event_at(others) {
+            follow(alloc, &mut board, event, &mut arrivals)?;
+        }
+    }
+    Ok(arrivals)
+}
+
+/// Lets a board do an event, and follows it.
+fn follow(
+    alloc: Global,
+    board: &mut Board,
+    event: Event,
+    arrivals: &mut Arrivals,
+) -> Result<(), NoMemory> {
+    let before = Before::of(alloc, board, event)?;
+    let report = board.event_apart(event);
+    let told = before.happening(alloc, report, board)?;
+    arrivals.follow(&told)
+}
 
 /// Puts lines at the end that say how deep each stack became, where one has overflowed.
 fn put_overflow(
