@@ -40,7 +40,8 @@ head -n 1 "$work/little.journal" > "$work/out"
 check "try: a little-endian journal" 0 "$work/wanted-line" "" 0
 
 # What it ran is kept as `run` and `trace` take it.
-tries "what is kept" 0 "" --keep "$work/kept" --page "$work/page.html" examples/hello/hello.s
+tries "what is kept" 0 "open $work/page.html in a browser" --keep "$work/kept" --page "$work/page.html" \
+    examples/hello/hello.s
 cat > "$work/wanted.cfg" << 'END'
 BOARD(1, 0x00010000);
 CLASS(TCL_1) {
@@ -154,7 +155,10 @@ verdict "try: nothing is kept where output can't be written" "$wrong"
 tries "a folder that isn't there" 4 "board: can't open $work/nosuch/kept.cfg: $is_missing" \
     --keep "$work/nosuch/kept" examples/hello/hello.s
 "$board" try --steps 100001 "$work/spin.s" > "$work/wanted"
-tries "a page of the last events" 0 "" --steps 100001 --page "$work/long.html" "$work/spin.s"
+tries "a page of the last events" 0 "open $work/long.html in a browser" --steps 100001 --page "$work/long.html" \
+    "$work/spin.s"
+tries "a page that can't be created" 4 "board: can't open $work/nosuch/page.html: $is_missing" \
+    --steps 100001 --page "$work/nosuch/page.html" "$work/spin.s"
 verdict "try: the last 100,000 of 100,001 events" \
     "$(grep -q '"from":1,"asked":0,' "$work/long.html" || head -c 300 "$work/long.html")"
 
