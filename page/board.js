@@ -13,6 +13,9 @@
 //   listing   address, name, instruction, the file and the line of the source ("main.c:31") where they are known, and
 //             the text of that line where sdk/sourced has put it there
 //   words     address and name of each word that is loaded or stored
+//   deadlock  1 where the board is deadlocked in the end
+//   circle    the tasks that wait for each other then: number, the semaphore that it waits for, and of each unit of
+//             that the task that has taken it, and in which event
 // A processor is its number, "task", "handler", "idle" or "stopped", the number of the task or of the line, the address
 // of the next instruction, and the registers that aren't 0. A task is its number, state, priority, processor, what it
 // waits for, the object's ID, and the tick that ends the wait.
@@ -487,59 +490,9 @@ function waiting(state) {
       + (due === undefined ? "" : ", until tick " + due), i: since(id, name) }));
 }
 
-const UNIT = /(?:(task \d+): )?(\w+_sem)\((-?\d+)[^)]*\) = E_OK/g;
-
-// Semaphores that serve as locks, with the tasks that have taken a unit and not given it back, and when.
-function units() {
-  const held = new Map(), noLock = new Set();
-  events.forEach((event, i) => {
-    for (const [, other, call, number] of (event.t || "").matchAll(UNIT)) {
-      const who = other || executors[i], id = Number(number);
-      const own = held.get(id) || [];
-      const last = own.findLastIndex((unit) => unit.who === who);
-      if (!/sig_sem$/.test(call)) own.push({ who, i });
-      else if (last >= 0) own.splice(last, 1);
-      else noLock.add(id);
-      held.set(id, own);
-    }
-  });
-  for (const id of noLock) held.delete(id);
-  return held;
-}
-
-// Tasks that wait without an end for semaphores that only tasks among them have taken.
-function circle(state) {
-  const held = units();
-  let those = state.tasks.filter((task) => task[4] === "for semaphore" && task[6] === undefined);
-  for (let before = -1; before !== those.length;) {
-    before = those.length;
-    const names = new Set(those.map(([id]) => "task " + id));
-    those = those.filter((task) => (held.get(task[5]) || []).length > 0
-      && held.get(task[5]).every((unit) => names.has(unit.who)));
-  }
-  return those.map(([id, , , , , object]) => "task " + id + " waits for semaphore " + object + ", which "
-    + held.get(object).map((unit) => unit.who + " took at " + after(unit.i)).join(" and "));
-}
-
-// Whether an idle processor may be about to accept an interrupt: one is raised since its last step, and pending. (Before
-// the first position some may have been raised.)
-function isRaised(state) {
-  const raised = new Map();
-  for (const { i, found } of textsOf(/^(the|accepts the) interrupt of line (\d+)/)) {
-    if (found[1] === "the") raised.set(found[2], i);
-    else raised.delete(found[2]);
-  }
-  const last = Math.max(from === 0 ? -1 : 0, ...raised.values());
-  return state.cpus.some((cpu) => cpu.who === "idle"
-    && events.findLastIndex((event) => event.c === cpu.number) < last);
-}
-
-// Whether tasks wait, and nothing that is under way ends a wait.
-function isDeadlock(state) {
-  return !state.off && state.cpus.every((cpu) => !cpu.executes) && !isRaised(state)
-    && state.tasks.some((task) => task[4] !== undefined)
-    && state.tasks.every((task) => task[1] !== "ready" && task[6] === undefined);
-}
+// The tasks that wait for each other, of which each waits for a semaphore whose units none but they have.
+const circle = () => run.circle.map(([id, semaphore, units]) => "task " + id + " waits for semaphore " + semaphore
+  + ", which " + units.map(([task, at]) => "task " + task + " took at event " + at).join(" and "));
 
 // How many own steps a processor that goes round needs for a round that changes nothing; 0 if none is seen.
 function round(number, end) {
@@ -589,11 +542,11 @@ function endOf() {
     if (rows.length > 0) heads.push(rows.length === 1 ? name[0] : rows.length + " " + name[1]);
     found.push(...rows);
   };
-  if (isDeadlock(state)) {
+  if (run.deadlock === 1) {
     add(["deadlock"], [{ text: "deadlock: no task is ready, and no tick and no pending interrupt releases one that "
       + "waits" }]);
   }
-  const those = from === 0 ? circle(state) : [];
+  const those = circle();
   if (those.length > 0) add(["circular wait"], [{ text: "circular wait: " + those.join("; ") }]);
   add(["a processor spins", "processors spin"], spins(state));
   add(["an exception", "exceptions"], faults());

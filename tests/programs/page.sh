@@ -40,6 +40,9 @@ page "a part" "$work/part.html" --from 5 --to 20 "${lost[@]}"
 # Its limits: 100,000 events, and 8 MiB for more than 1,000. Of more the last ones are shown.
 printf 'board-journal 1\nS 1 60000\nS 2 40020\n' > "$work/long.journal"
 shown last "${lost[@]:0:2}" "$work/long.journal"
+# (A page that begins behind all calls has a deadlock and a circular wait all the same.)
+{ cat examples/deadlock/deadlock.journal; echo "S 1 100000"; } > "$work/stuck.journal"
+shown stuck "$work/deadlock-deadlock.elf" examples/deadlock/deadlock.cfg "$work/stuck.journal"
 page "100,000 events" "$work/long.html" --to 100000 "${lost[@]:0:2}" "$work/long.journal"
 # last NAME COUNT PAGE: a page has the last events alone, so many of them.
 last() {
@@ -48,6 +51,10 @@ last() {
 }
 last "more than 100,000 events" 20 "$work/last.html"
 last "100,000 events, all of them" 0 "$work/long.html"
+last "a circular wait before the page" 42 "$work/stuck.html"
+verdict "page: its circular wait" \
+    "$(grep -q '"deadlock":1,"circle":\[\[1,2,\[\[2,32\]\]\],\[2,1,\[\[1,28\]\]\]\]' "$work/stuck.html" ||
+        grep -o '"deadlock".\{80\}' "$work/stuck.html" || echo "it has none")"
 cat > "$work/wide.cfg" << 'END'
 BOARD(1, 0x10000);
 CRE_TSK(1, {TA_ACT, 1, main, 1, 256, NULL});

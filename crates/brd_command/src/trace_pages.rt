@@ -14,6 +14,7 @@ use brd_page::{ALWAYS_SHOWN, MOST_EVENTS, PageFault, Part, page};
 use brd_printer::Options;
 use brd_progress::Progress;
 use brd_trace::Tracer;
+use brd_verdicts::{Units, findings_of};
 use std::io::Write;
 
 impl<'a> Traced<'a> {
@@ -55,14 +56,16 @@ impl<'a> Traced<'a> {
         ensures { IfOk result (λ page. IsLastPage boot.now self.now.journal.now.events self.now.part.from
             self.now.part.to page.items) }
     {
+        let found = findings_of(self.alloc, boot.try_copy()?, self.journal, self.part.to)?;
+        let units = &found.accounts.units;
         let mut most = MOST_EVENTS.min(self.part.to - self.part.from);
         while most > ALWAYS_SHOWN {
-            if let Some(page) = self.page_of_last(most, boot, shown, lines, progress)? {
+            if let Some(page) = self.page_of_last(most, boot, units, shown, lines, progress)? {
                 return Ok(page);
             }
             most /= 2;
         }
-        match self.page_of_last(ALWAYS_SHOWN, boot, shown, lines, progress)? {
+        match self.page_of_last(ALWAYS_SHOWN, boot, units, shown, lines, progress)? {
             Some(page) => Ok(page),
             // (So few are always shown.)
             None => Err(NoMemory),
@@ -75,6 +78,7 @@ impl<'a> Traced<'a> {
         &self,
         most: u64,
         boot: &Board,
+        units: &Units,
         shown: Options,
         lines: &Lines,
         progress: &mut P,
@@ -93,6 +97,7 @@ impl<'a> Traced<'a> {
             image: self.image,
             journal: self.journal,
             lines,
+            units,
             asked: self.part.from,
             to: self.part.to,
         };

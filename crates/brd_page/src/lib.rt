@@ -16,6 +16,7 @@ mod run_page;
 mod seen;
 mod template;
 mod told;
+mod verdicts;
 mod words;
 
 pub use fault::PageFault;

@@ -21,7 +21,9 @@ use crate::picture::draw;
 use crate::recorder::Recorder;
 use crate::template::{FRONT, MIDDLE, REST};
 use crate::told::Told;
+use crate::verdicts::put_verdicts;
 use brd_base::NoMemory;
+use brd_board::Board;
 use brd_journal::Journal;
 use brd_lines::Lines;
 use brd_listing::Places;
@@ -30,6 +32,7 @@ use brd_names::Names;
 use brd_printer::Manner;
 use brd_timeline::PictureFault;
 use brd_trace::Tracer;
+use brd_verdicts::Units;
 use std::alloc::Global;
 
 /// How many events a page shows at most.
@@ -54,6 +57,8 @@ pub struct Part<'a> {
     pub journal: &'a Journal,
     /// The lines of its source that are known.
     pub lines: &'a Lines,
+    /// Which tasks have units of semaphores in the end.
+    pub units: &'a Units,
     /// The position from which on events were asked for: a page may begin later, and says so.
     pub asked: u64,
     /// The position after the last event.
@@ -89,12 +94,13 @@ pub fn page(alloc: Global, tracer: Tracer, part: Part) -> Result<Vec<u8>, PageFa
     let mut recorder = Recorder::new(alloc, tracer, manner, part.asked)?;
     put_events(alloc, &mut recorder, part, &symbols, many)?;
     let Recorder {
+        playback,
         tracer,
         mut told,
         mut text,
         ..
     } = recorder;
-    put_places(alloc, &mut told, part, &symbols, &mut text)?;
+    put_rest(alloc, &mut told, part, &symbols, &playback.board, &mut text)?;
     let picture = picture_of(alloc, tracer, part.journal)?;
     whole(alloc, &picture, &text, many)
 }
@@ -134,12 +140,14 @@ fn put_events(
     Ok(())
 }
 
-/// Puts at the end what comes behind the events: the listing, and the names of the words that were loaded or stored.
-fn put_places(
+/// Puts at the end what comes behind the events: what is found of the board after them, the listing, and the names of
+/// the words that were loaded or stored.
+fn put_rest(
     alloc: Global,
     told: &mut Told,
     part: Part,
     symbols: &Places,
+    board: &Board,
     text: &mut Json,
 ) -> Result<(), NoMemory>
     ensures { OnOk result (IsBehind IsAny text.old text.new) }
@@ -149,6 +157,7 @@ fn put_places(
     told.words.sort()?;
     told.words.dedup();
     let mut json = Json::new(alloc);
+    put_verdicts(&mut json, alloc, part.units, board)?;
     json.key("listing")?;
     let names = Names::with_lines(symbols, part.image.segments.as_slice(), part.lines);
     put_listing(&mut json, alloc, part.image, names, &told.places)?;

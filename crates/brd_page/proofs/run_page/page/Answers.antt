@@ -20,7 +20,7 @@ returns-clause-page c = λ boot played noted.
     let told = subst (λ (n : ℕ). IsDataUpTo boot events from n it.text) ends all.told in
     c.whole.ensures.page boot events from to
     (subst (λ (them : List ℕ). IsDrawn boot events from to them) (sym c.deref.ensures.value) drawn)
-    (data-ends boot events from to it.text c.put_places.new.text told c.in_ok-put_places.ensures)
+    (data-ends boot events from to it.text c.put_rest.new.text told c.in_ok-put_rest.ensures)
 
 pub returns-clause-bytes : goal.returns-clause-bytes
 returns-clause-bytes c = λ many. c.whole.ensures.bytes (grind (arith, nat_tests, many))
