@@ -1,6 +1,9 @@
 //! What is said of a board after a run: tasks that have ended by exceptions or have run off the end of the program, and
 //! stacks that have overflowed.
 
+ghost use Rattle.std.specs.Prelude.{◌≡◌, IfSome};
+ghost use Rattle.brd_exec.specs.State.{read};
+
 use crate::finding::{Finding, told};
 use crate::hint::FaultHint;
 use brd_base::BASE;
@@ -93,7 +96,9 @@ fn is_fetch(fault: Fault) -> bool {
 }
 
 /// The register that has this word, if one alone has it.
-fn holder(context: &Context, word: u32) -> Option<Register> {
+fn holder(context: &Context, word: u32) -> Option<Register>
+    ensures { IfSome result (λ register. read context.now register ≡ word) }
+{
     let mut found = None;
     for number in 1..32u32 {
         let register = Register::low(number);
