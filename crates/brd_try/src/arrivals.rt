@@ -1,8 +1,8 @@
 //! By which branch or jump a task or a handler came to where it raised an exception.
 
 use brd_base::NoMemory;
-use brd_board::{Board, Event, Standing};
-use brd_happening::{Cause, Happening, Instruction, Jump, What};
+use brd_board::Standing;
+use brd_happening::{Answer, Cause, Happening, Instruction, Jump, What};
 use brd_isa::{Flow, Insn, Register, shape_of};
 use brd_listing::{write_instruction, write_register};
 use brd_names::{Names, put, put_who, put_word};
@@ -71,6 +71,7 @@ impl Way {
     fn after(self, place: u32, what: &What) -> Way {
         match *what {
             What::Instruction(done) => self.after_instruction(place, &done),
+            What::Call(made) if matches!(made.answer, Answer::Never) => Way::new(self.who),
             What::Call(_) => self.gone_on(place),
             What::Accepted(_) => self,
             _ => Way::new(self.who),
