@@ -659,17 +659,26 @@ cfg=tests/data/gdb/slots.cfg
 journal=tests/data/gdb/slots.journal
 points=()
 for i in {10..73}; do points+=("Z0,800001$i,4"); done
-replies "64 points of a kind, and bytes of a watch" "$(printf 'OK\n%.0s' {1..64})
+replies "64 breaks of a kind" "$(printf 'OK\n%.0s' {1..64})
 E01
 OK
 OK
 OK
 OK
+E01" "${points[@]}" Z0,80000024,4 Z0,80000110,4 Z1,80000024,4 z0,80000110,4 Z0,80000024,4 Z0,80000028,4
+replies "512 bytes of watches of a kind" 'E01
 E01
+OK
+OK
 E01
+OK
+OK
 E01
-OK" "${points[@]}" Z0,80000024,4 Z0,80000110,4 Z1,80000024,4 z0,80000110,4 Z0,80000024,4 Z0,80000028,4 Z2,80000040,0 \
-    Z3,80000040,9 Z4,80000040,8
+OK
+OK
+E01
+T05thread:01;' Z2,80000040,0 Z2,80000040,201 Z2,80000040,200 Z2,80000040,200 Z2,80000040,1 Z3,80000040,1ff Z3,80000044,1 \
+    Z3,80000046,1 z3,80000040,1ff Z3,80000040,1ff Z4,80000040,ffffffff "vCont;s:1"
 # Steps of a thread that is named, of one that is chosen by Hg, by T, and by a stop.
 replies "whose step it is" 'OK
 T05thread:02;

@@ -1,17 +1,16 @@
 -- What a debugger's sets of addresses have once points are loaded.
-use Rattle.std.proofs.Common.{◌≡◌, ℕ, zero, suc, ◌+◌, ◌*◌, ◌%◌, ◌^◌, ◌<◌, ◌≤◌, List, [], ◌∷◌, ◌++◌, length, refl}
+use Rattle.std.proofs.Common.{◌≡◌, ℕ, zero, suc, ◌+◌, ◌%◌, ◌^◌, ◌<◌, ◌≤◌, List, [], ◌∷◌, ◌++◌, length, refl}
 use Rattle.std.proofs.Common.{sym, ap, subst, ◌∙◌, arith, inl, inr, length-append}
-use Rattle.std.specs.Prelude.{Bool, true, false, ◌&&◌, ◌||◌, ◌==◌, if◌then◌else◌, nat_lt, nat_le, All}
+use Rattle.std.specs.Prelude.{Bool, true, false, ◌&&◌, ◌||◌, ◌==◌, if◌then◌else◌, nat_le}
 use Rattle.std.specs.List.{Any}
 use Rattle.std.specs.Prelude.{slice_index_or}
-use Rattle.std.proofs.lemmas.Bool.{cases_eq, false≢true, lt-leb, ne_eqb, eq-eqb, eqb-true, leb-true, or_cases}
-use Rattle.std.proofs.lemmas.Bool.{and_parts}
+use Rattle.std.proofs.lemmas.Bool.{cases_eq, false≢true, lt-leb, ne_eqb, eq-eqb, eqb-true, or_cases}
 use Rattle.std.proofs.lemmas.Bool.{cases_lt, or_left, or_right}
-use Rattle.std.proofs.lemmas.List.Elements.{All-head, All-tail}
 use Rattle.brd_debug.specs.Marks.{most_addresses, is_marked, marked_within}
 use Rattle.brd_gdb.specs.declared.request.PointKind.{PointKind}
 use Rattle.brd_stub.specs.declared.points.Point.{Point}
-use Rattle.brd_stub.specs.Points.{is_kind, is_break, count, fits, AreSet, add_break, breaks_of, add_bytes, watches_of}
+use Rattle.brd_stub.specs.Points.{is_kind, is_break, places, weight, taken, AreSet, add_break, breaks_of, add_bytes}
+use Rattle.brd_stub.specs.Points.{watches_of}
 
 or-false : (r : Bool) → (r || false) ≡ r
 or-false true = refl
@@ -134,63 +133,54 @@ some-at test (q ∷ points) (suc k) p within is passes =
 abbrev pub breaks_at : ℕ → Point → Bool
 breaks_at a p = is_break p.kind && p.address == a
 
-add-break-marked : (test : Bool) (marks : List ℕ) (x a : ℕ) → length marks < 512 →
+add-break-marked : (test : Bool) (marks : List ℕ) (x a : ℕ) → (test ≡ true → length marks < 512) →
     is_marked (if test then marked_within most_addresses marks x else marks) a
     ≡ (is_marked marks a || (test && x == a))
-add-break-marked true marks x a few = marked-within marks x a few
+add-break-marked true marks x a few = marked-within marks x a (few refl)
 add-break-marked false marks x a few = sym (or-false (is_marked marks a))
 
-break-size : (test : Bool) (marks : List ℕ) (x : ℕ) →
-    length (if test then marked_within most_addresses marks x else marks) ≤ suc (length marks)
-break-size true marks x = within-size marks x
-break-size false marks x = omega arith
+-- the places that a point takes among the breaks of both kinds
 
-breaks-marked : (marks : List ℕ) (points : List Point) (a : ℕ) → length marks + length points ≤ 512 →
+abbrev both_taken : PointKind → ℕ → ℕ → ℕ → ℕ
+both_taken kind length m n =
+    (if is_kind kind PointKind.SoftwareBreak then (if is_break kind then 1 else length) + m else m)
+    + (if is_kind kind PointKind.HardwareBreak then (if is_break kind then 1 else length) + n else n)
+
+break-room : (kind : PointKind) (marks : List ℕ) (bytes m n : ℕ) →
+    length marks + both_taken kind bytes m n ≤ 512 → is_break kind ≡ true → length marks < 512
+break-room PointKind.SoftwareBreak marks bytes m n few is = omega (arith, few)
+break-room PointKind.HardwareBreak marks bytes m n few is = omega (arith, few)
+break-room PointKind.WriteWatch marks bytes m n few is = absurd (false≢true is)
+break-room PointKind.ReadWatch marks bytes m n few is = absurd (false≢true is)
+break-room PointKind.AccessWatch marks bytes m n few is = absurd (false≢true is)
+
+break-left : (kind : PointKind) (marks : List ℕ) (x bytes m n : ℕ) →
+    length marks + both_taken kind bytes m n ≤ 512 →
+    length (if is_break kind then marked_within most_addresses marks x else marks) + (m + n) ≤ 512
+break-left PointKind.SoftwareBreak marks x bytes m n few = omega (arith, few, within-size marks x)
+break-left PointKind.HardwareBreak marks x bytes m n few = omega (arith, few, within-size marks x)
+break-left PointKind.WriteWatch marks x bytes m n few = omega (arith, few)
+break-left PointKind.ReadWatch marks x bytes m n few = omega (arith, few)
+break-left PointKind.AccessWatch marks x bytes m n few = omega (arith, few)
+
+breaks-marked : (marks : List ℕ) (points : List Point) (a : ℕ) →
+    length marks + (taken PointKind.SoftwareBreak points + taken PointKind.HardwareBreak points) ≤ 512 →
     is_marked (breaks_of marks points) a ≡ (is_marked marks a || some (breaks_at a) points)
 breaks-marked marks [] a few = sym (or-false (is_marked marks a))
 breaks-marked marks (p ∷ points) a few =
-    breaks-marked (add_break marks p) points a (omega (arith, few, break-size (is_break p.kind) marks p.address))
+    let m = taken PointKind.SoftwareBreak points in
+    let n = taken PointKind.HardwareBreak points in
+    breaks-marked (add_break marks p) points a (break-left p.kind marks p.address p.length m n few)
     ∙ ap (λ (r : Bool). r || some (breaks_at a) points)
-    (add-break-marked (is_break p.kind) marks p.address a (omega (arith, few)))
+    (add-break-marked (is_break p.kind) marks p.address a (break-room p.kind marks p.length m n few))
     ∙ or-again (is_marked marks a) (breaks_at a p) (some (breaks_at a) points)
-
--- there are at most 64 points of each of the five kinds
-
-one-more : (kind : PointKind) (a b c d e n : ℕ) → n ≤ a + b + c + d + e →
-    suc n
-    ≤ (if is_kind kind PointKind.SoftwareBreak then suc a else a)
-    + (if is_kind kind PointKind.HardwareBreak then suc b else b)
-    + (if is_kind kind PointKind.WriteWatch then suc c else c)
-    + (if is_kind kind PointKind.ReadWatch then suc d else d)
-    + (if is_kind kind PointKind.AccessWatch then suc e else e)
-one-more PointKind.SoftwareBreak a b c d e n le = omega (arith, le)
-one-more PointKind.HardwareBreak a b c d e n le = omega (arith, le)
-one-more PointKind.WriteWatch a b c d e n le = omega (arith, le)
-one-more PointKind.ReadWatch a b c d e n le = omega (arith, le)
-one-more PointKind.AccessWatch a b c d e n le = omega (arith, le)
-
-counted : (points : List Point) →
-    length points
-    ≤ count PointKind.SoftwareBreak points + count PointKind.HardwareBreak points
-    + count PointKind.WriteWatch points + count PointKind.ReadWatch points + count PointKind.AccessWatch points
-counted [] = omega arith
-counted (p ∷ points) =
-    one-more p.kind (count PointKind.SoftwareBreak points) (count PointKind.HardwareBreak points)
-    (count PointKind.WriteWatch points) (count PointKind.ReadWatch points) (count PointKind.AccessWatch points)
-    (length points) (counted points)
 
 pub loaded-break : (points : List Point) (a : ℕ) → AreSet points →
     is_marked (breaks_of [] points) a ≡ some (breaks_at a) points
 loaded-break points a set =
-    breaks-marked [] points a (omega (
-      arith,
-      counted points,
-      set.few PointKind.SoftwareBreak,
-      set.few PointKind.HardwareBreak,
-      set.few PointKind.WriteWatch,
-      set.few PointKind.ReadWatch,
-      set.few PointKind.AccessWatch,
-    ))
+    let software : taken PointKind.SoftwareBreak points ≤ 64 = set.few PointKind.SoftwareBreak in
+    let hardware : taken PointKind.HardwareBreak points ≤ 64 = set.few PointKind.HardwareBreak in
+    breaks-marked [] points a (omega (arith, software, hardware))
 
 -- watches
 
@@ -212,41 +202,37 @@ add-watch-marked : (test : Bool) (marks : List ℕ) (p : Point) (a : ℕ) →
 add-watch-marked true marks p a few = bytes-marked marks p.address 0 p.length a (few refl)
 add-watch-marked false marks p a few = sym (or-false (is_marked marks a))
 
-room : (test : Bool) (marks : List ℕ) (n : ℕ) (p : Point) → (test ≡ true → p.length ≤ 8) →
-    length marks + 8 * (if test then suc n else n) ≤ 512 → test ≡ true → length marks + p.length ≤ 512
-room true marks n p short few is = omega (arith, few, short refl)
-room false marks n p short few is = absurd (false≢true is)
+room : (test : Bool) (marks : List ℕ) (n weighs : ℕ) (p : Point) → (test ≡ true → weighs ≡ p.length) →
+    length marks + (if test then weighs + n else n) ≤ 512 → test ≡ true → length marks + p.length ≤ 512
+room true marks n weighs p byte few is = omega (arith, few, byte refl)
+room false marks n weighs p byte few is = absurd (false≢true is)
 
-room-left : (test : Bool) (marks : List ℕ) (n : ℕ) (p : Point) → (test ≡ true → p.length ≤ 8) →
-    length marks + 8 * (if test then suc n else n) ≤ 512 →
-    length (if test then add_bytes marks p.address 0 p.length else marks) + 8 * n ≤ 512
-room-left true marks n p short few = omega (arith, few, short refl, bytes-size marks p.address 0 p.length)
-room-left false marks n p short few = few
+room-left : (test : Bool) (marks : List ℕ) (n weighs : ℕ) (p : Point) → (test ≡ true → weighs ≡ p.length) →
+    length marks + (if test then weighs + n else n) ≤ 512 →
+    length (if test then add_bytes marks p.address 0 p.length else marks) + n ≤ 512
+room-left true marks n weighs p byte few = omega (arith, few, byte refl, bytes-size marks p.address 0 p.length)
+room-left false marks n weighs p byte few = few
 
-short : (kind : PointKind) (p : Point) → is_break kind ≡ false → fits p ≡ true → is_kind p.kind kind ≡ true →
-    p.length ≤ 8
-short kind p watch fit is =
-    elim (or_cases (is_break p.kind) (nat_lt 0 p.length && nat_le p.length 8) fit) [
-      | inl breaks ↦ absurd (false≢true (sym watch
-          ∙ subst (λ (k : PointKind). is_break k ≡ true) (kind-same p.kind kind is) breaks))
-      | inr both ↦ leb-true p.length 8 (and_parts (nat_lt 0 p.length) (nat_le p.length 8) both).1
-    ]
+-- a watch takes a place for each of its bytes
+bytewise : (kind : PointKind) (p : Point) → is_break kind ≡ false → is_kind p.kind kind ≡ true → weight p ≡ p.length
+bytewise kind p watch is =
+    ap (λ (t : Bool). if t then 1 else p.length)
+    (subst (λ (k : PointKind). is_break k ≡ false) (sym (kind-same p.kind kind is)) watch)
 
 watches-marked : (kind : PointKind) (marks : List ℕ) (points : List Point) (a : ℕ) → is_break kind ≡ false →
-    All (λ p. fits p ≡ true) points → length marks + 8 * count kind points ≤ 512 →
+    length marks + taken kind points ≤ 512 →
     is_marked (watches_of kind marks points) a ≡ (is_marked marks a || some (watches_at kind a) points)
-watches-marked kind marks [] a watch fit few = sym (or-false (is_marked marks a))
-watches-marked kind marks (p ∷ points) a watch fit few =
+watches-marked kind marks [] a watch few = sym (or-false (is_marked marks a))
+watches-marked kind marks (p ∷ points) a watch few =
     let test = is_kind p.kind kind in
-    let brief = short kind p watch (All-head (λ (q : Point). fits q ≡ true) p points fit) in
     watches-marked kind (if test then add_bytes marks p.address 0 p.length else marks) points a watch
-    (All-tail (λ (q : Point). fits q ≡ true) p points fit)
-    (room-left test marks (count kind points) p brief few)
+    (room-left test marks (taken kind points) (weight p) p (bytewise kind p watch) few)
     ∙ ap (λ (r : Bool). r || some (watches_at kind a) points)
-    (add-watch-marked test marks p a (room test marks (count kind points) p brief few))
+    (add-watch-marked test marks p a (room test marks (taken kind points) (weight p) p (bytewise kind p watch) few))
     ∙ or-again (is_marked marks a) (watches_at kind a p) (some (watches_at kind a) points)
 
 pub loaded-watch : (kind : PointKind) (points : List Point) (a : ℕ) → is_break kind ≡ false → AreSet points →
     is_marked (watches_of kind [] points) a ≡ some (watches_at kind a) points
 loaded-watch kind points a watch set =
-    watches-marked kind [] points a watch set.fit (omega (arith, set.few kind))
+    let roomy : places kind ≡ 512 = ap (λ (t : Bool). if t then 64 else 512) watch in
+    watches-marked kind [] points a watch (omega (arith, set.few kind, roomy))

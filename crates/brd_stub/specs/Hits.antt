@@ -22,7 +22,7 @@ IsAt (report.Called place) address = place ≡ address
 IsAt (report.Faulted place) address = place ≡ address
 IsAt other address = ⊥
 
--- an address is one of the bytes of a point, or of a span
+-- an address is one of the bytes of a point, from its first one to its last, or of a span
 abbrev pub IsByteOf : Point → ℕ → Type 0
 IsByteOf p address = (i : ℕ) × (i < p.length) × (address ≡ (p.address + i) % 2 ^ 32)
 
@@ -42,7 +42,8 @@ IsWritten b Tick address = ⊥
 IsWritten b (Raise line) address = ⊥
 
 -- An event that comes to a board, and leaves another one with this report, hits a point: a break by its instruction, a
--- watch by a byte that it changes, or that its instruction reads, or reads or writes, unless that raises an exception.
+-- watch by any of its bytes that it changes, or that its instruction reads, or reads or writes, unless that raises an
+-- exception.
 abbrev pub HitsAs : PointKind → Point → BoardState → Event → Report → BoardState → Type 0
 HitsAs PointKind.SoftwareBreak p b event told after = IsAt told p.address
 HitsAs PointKind.HardwareBreak p b event told after = IsAt told p.address

@@ -8,12 +8,12 @@ use Rattle.brd_gdb.specs.declared.request.PointKind.{PointKind}
 use Rattle.brd_stub.specs.declared.points.Point.{Point}
 use Rattle.brd_stub.specs.declared.stepping.Stepped.{Stepped}
 
--- how many points of a kind there are at most, and how many bytes a watch has at most (own choice)
-abbrev pub most_points : ℕ
-most_points = 64
+-- how many breaks of a kind there are at most, and how many bytes the watches of a kind have together (own choice)
+abbrev pub most_breaks : ℕ
+most_breaks = 64
 
 abbrev pub most_watched : ℕ
-most_watched = 8
+most_watched = 512
 
 -- two kinds are the same
 abbrev pub is_kind : PointKind → PointKind → Bool
@@ -41,23 +41,32 @@ abbrev pub is_set : List Point → Point → Bool
 is_set [] p = false
 is_set (q ∷ points) p = is_point q p || is_set points p
 
--- how many points of a kind are set
-abbrev pub count : PointKind → List Point → ℕ
-count kind [] = 0
-count kind (q ∷ points) = if is_kind q.kind kind then suc (count kind points) else count kind points
+-- How many places there are for points of a kind, and how many of them a point takes: a break takes one, a watch one
+-- for each of its bytes, of which another watch may have some too.
+abbrev pub places : PointKind → ℕ
+places kind = if is_break kind then most_breaks else most_watched
 
--- a watch has some bytes, and not too many; of a break the length means something else
+abbrev pub weight : Point → ℕ
+weight p = if is_break p.kind then 1 else p.length
+
+-- how many places the points of a kind take
+abbrev pub taken : PointKind → List Point → ℕ
+taken kind [] = 0
+taken kind (q ∷ points) = if is_kind q.kind kind then weight q + taken kind points else taken kind points
+
+-- a watch has some bytes; of a break the length means something else
 abbrev pub fits : Point → Bool
-fits p = is_break p.kind || nat_lt 0 p.length && nat_le p.length most_watched
+fits p = is_break p.kind || nat_lt 0 p.length
 
 -- A point may be set that fits, and is set already or has room. Else it is refused.
 abbrev pub may_set : List Point → Point → Bool
-may_set points p = fits p && (is_set points p || nat_lt (count p.kind points) most_points)
+may_set points p = fits p && (is_set points p || nat_le (taken p.kind points + weight p) (places p.kind))
 
--- points that were set one after the other: of each kind at most as many as there may be, and each of them fits
+-- points that were set one after the other: those of each kind take at most as many places as there are, and each of
+-- them fits
 pub record AreSet (points : List Point) : Type 0 where
   pub fit : All (λ p. fits p ≡ true) points
-  pub few : (kind : PointKind) → count kind points ≤ most_points
+  pub few : (kind : PointKind) → taken kind points ≤ places kind
 
 -- the points with one more, unless that is set or may not be
 abbrev pub with_point : List Point → Point → List Point
@@ -68,7 +77,7 @@ abbrev pub without_point : List Point → Point → List Point
 without_point points p = filter (λ q. not (is_point q p)) points
 
 -- The stops of points: a break at the address of each point that is one, and for each byte of a watch one of the byte,
--- as its kind says. (There is room for all: 64 points of each kind, of 8 bytes.)
+-- as its kind says. (A debugger has room for all: for 512 addresses of each kind.)
 
 abbrev pub add_break : List ℕ → Point → List ℕ
 add_break marks p = if is_break p.kind then marked_within most_addresses marks p.address else marks

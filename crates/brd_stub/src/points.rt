@@ -1,13 +1,15 @@
 //! Points at which GDB wants to stop.
 
-ghost use Rattle.std.specs.Prelude.{◌≡◌, [], ◌∷◌, IfOk, OnOk};
+ghost use Rattle.std.specs.Prelude.{◌≡◌, ◌≤◌, [], ◌∷◌, IfOk, OnOk};
 ghost use Rattle.brd_stub.specs.Points.{
   is_kind,
   is_break,
   is_point,
   is_set,
   AreSet,
-  count,
+  places,
+  weight,
+  taken,
   fits,
   may_set,
   with_point,
@@ -26,11 +28,11 @@ use brd_gdb::PointKind;
 use std::alloc::Global;
 use std::marker::Model;
 
-/// How many points of a kind there are at most (own choice).
-const MOST_POINTS: usize = 64;
+/// How many breaks of a kind there are at most (own choice).
+const MOST_BREAKS: u64 = 64;
 
-/// How many bytes a watch has at most (own choice).
-const MOST_WATCHED: u32 = 8;
+/// How many bytes the watches of a kind have together at most (own choice).
+const MOST_WATCHED: u64 = 512;
 
 /// A point.
 #[derive(Clone, Copy)]
@@ -43,7 +45,7 @@ pub struct Point {
     pub length: u32,
 }
 
-/// The points that are set: at most 64 of each kind, of which the watches have 1 to 8 bytes.
+/// The points that are set: of each kind at most 64 breaks, or watches of 512 bytes together.
 #[derive(Drop)]
 pub struct Points {
     points: Vec<Point>,
@@ -79,7 +81,7 @@ impl Points {
         self.points.as_slice()
     }
 
-    /// Sets a point that isn't set, unless there are 64 others of its kind, or it has too many bytes or none. Answers
+    /// Sets a point that isn't set, unless those of its kind leave too few places, or it is a watch of no byte. Answers
     /// whether it is set now.
     pub fn set(&mut self, point: Point) -> Result<bool, NoMemory>
         ensures set { IfOk result (λ set. set ≡ may_set self.old point) }
@@ -91,7 +93,7 @@ impl Points {
         if is_set(&self.points, point) {
             return Ok(true);
         }
-        if count(point.kind, &self.points) >= MOST_POINTS {
+        if taken(point.kind, &self.points) + weight(point) > places(point.kind) {
             return Ok(false);
         }
         self.points.push(point)?;
@@ -113,11 +115,31 @@ fn remove(points: &mut Vec<Point>, point: Point)
     points.retain(|other| !is_point(*other, point));
 }
 
-/// Whether it isn't a watch of no bytes, or of too many.
+/// Whether it isn't a watch of no bytes.
 fn fits(point: Point) -> bool
     ensures { result ≡ fits point }
 {
-    is_break(point.kind) || 0 < point.length && point.length <= MOST_WATCHED
+    is_break(point.kind) || 0 < point.length
+}
+
+/// How many places there are for points of a kind.
+fn places(kind: PointKind) -> u64
+    ensures { result ≡ places kind }
+{
+    if is_break(kind) {
+        return MOST_BREAKS;
+    }
+    MOST_WATCHED
+}
+
+/// How many places a point takes: a watch one for each of its bytes.
+fn weight(point: Point) -> u64
+    ensures { result ≡ weight point }
+{
+    if is_break(point.kind) {
+        return 1;
+    }
+    u64::from(point.length)
 }
 
 /// Whether a point is set.
@@ -132,14 +154,15 @@ fn is_set(points: &[Point], point: Point) -> bool
     false
 }
 
-/// How many points of a kind there are.
-fn count(kind: PointKind, points: &[Point]) -> usize
-    ensures { result ≡ count kind points.now }
+/// How many places the points of a kind take, which are no more than there are.
+fn taken(kind: PointKind, points: &[Point]) -> u64
+    requires { taken kind points.now ≤ places kind }
+    ensures { result ≡ taken kind points.now }
 {
     let mut found = 0;
     for point in points {
         if is_kind(point.kind, kind) {
-            found += 1;
+            found += weight(*point);
         }
     }
     found
