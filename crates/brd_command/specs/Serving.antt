@@ -40,7 +40,7 @@ pub record AddsAnswer (request : Request) (s after : Server) (old new : List ℕ
   pub reply : List ℕ
   pub shown : List ℕ
   pub answers : Answers s.session request reply after.session
-  pub tells : Shows request after.session console
+  pub tells : Shows s.session request after.session console
   pub shows : Outputs console shown
   pub added : new ≡ old ++ shown ++ framed reply
   pub receives : after.receiver ≡ s.receiver

@@ -1,5 +1,5 @@
 -- What a session answers, and what becomes of it.
-use Rattle.std.specs.Prelude.{◌≡◌, ℕ, ◌≤◌, nat_le, true, if◌then◌else◌, is_some, List, [], length}
+use Rattle.std.specs.Prelude.{◌≡◌, ℕ, ◌≤◌, nat_le, Bool, true, false, if◌then◌else◌, is_some, List, [], length}
 use Rattle.std.specs.Prelude.{Option, Some, None, codes}
 use Rattle.brd_board.specs.declared.event.Event.{Event}
 use Rattle.brd_board.specs.Board.{BoardState}
@@ -7,7 +7,10 @@ use Rattle.brd_debug.specs.Debugger.{shown}
 use Rattle.brd_debug.specs.Stops.{no_stops}
 use Rattle.brd_gdb.specs.Receiving.{packet_size}
 use Rattle.brd_gdb.specs.declared.request.PointKind.{PointKind}
+use Rattle.brd_gdb.specs.declared.request.Move.{Move}
+use Rattle.brd_gdb.specs.declared.request.Move.TheVariants as move
 use Rattle.brd_gdb.specs.declared.request.ThreadId.{ThreadId}
+use Rattle.brd_gdb.specs.declared.request.ThreadId.TheVariants as id
 use Rattle.brd_gdb.specs.declared.request.ThreadKind.{ThreadKind}
 use Rattle.brd_gdb.specs.declared.request.Monitor.TheVariants.{Goto, Threads}
 use Rattle.brd_gdb.specs.declared.request.Request.{Request}
@@ -80,11 +83,26 @@ named_in s thread = thread_named s.kind (shown s.debugger) thread s.halt.thread
 abbrev pub point : PointKind → ℕ → ℕ → Point
 point kind address length = record { kind = kind; address = address; length = length }
 
+-- A move forward may name the thread that it steps, which has to be there.
+abbrev pub name_in : Move → ThreadId
+name_in move.Continue = id.Any
+name_in (move.Step it) = it
+name_in (move.Alone number) = id.One number
+name_in (move.Range it start end) = it
+
+abbrev pub may_move : Session → Move → Bool
+may_move s how = is_some (named_in s (name_in how))
+
+-- Such a move ends at a stop. One that may not be made changes nothing.
+pub record MovesForward (s : Session) (how : Move) (next : Session) : Type 0 where
+  pub goes : may_move s how ≡ true →
+      Stops (GoesForward s.points (whose_of s) s.told
+      (stepping s.points (stepped_by s.kind (shown s.debugger) (stepping_of s.selection) how) s.debugger)) s next
+  pub stays : may_move s how ≡ false → next ≡ s
+
 -- What becomes of a session by a request. What is read, and all else, changes nothing.
 abbrev pub Becomes : Session → Request → Session → Type 0
-Becomes s (request.Forward how) next =
-    Stops (GoesForward s.points (whose_of s) s.told
-    (stepping s.points (stepped_by s.kind (shown s.debugger) (stepping_of s.selection) how) s.debugger)) s next
+Becomes s (request.Forward how) next = MovesForward s how next
 Becomes s request.BackwardContinue next =
     Stops (GoesBack s.points (whose_of s) s.told (stepping s.points (of_all None) s.debugger)) s next
 Becomes s request.BackwardStep next =
@@ -103,9 +121,10 @@ Becomes s (request.ClearPoint kind address length) next =
 Becomes s other next = next ≡ s
 
 -- What is replied: to a move, and to `?`, why it has ended, and to `qC` in which thread; to what changes something
--- else, whether that was done.
+-- else, whether that was done, and to a move that may not be made, that it wasn't.
 abbrev pub Says : Session → Request → Session → List ℕ → Type 0
-Says s (request.Forward how) next reply = reply ≡ fitting (halt_text next.halt)
+Says s (request.Forward how) next reply =
+    reply ≡ (if may_move s how then fitting (halt_text next.halt) else done_text false)
 Says s request.BackwardContinue next reply = reply ≡ fitting (halt_text next.halt)
 Says s request.BackwardStep next reply = reply ≡ fitting (halt_text next.halt)
 Says s request.StopReason next reply = reply ≡ fitting (halt_text s.halt)
@@ -117,15 +136,15 @@ Says s (request.SetPoint kind address length) next reply =
 Says s (request.ClearPoint kind address length) next reply = reply ≡ done_text true
 Says s other next reply = Unit {0}
 
--- What GDB's console shows of a move. What it shows of other requests isn't laid down.
+-- What GDB's console shows of a move that is made. What it shows of other requests isn't laid down.
 abbrev pub console_text : Session → List ℕ
 console_text s = note_text s.halt.reason (shown s.debugger)
 
-abbrev pub Shows : Request → Session → List ℕ → Type 0
-Shows (request.Forward how) next console = console ≡ console_text next
-Shows request.BackwardContinue next console = console ≡ console_text next
-Shows request.BackwardStep next console = console ≡ console_text next
-Shows other next console = Unit {0}
+abbrev pub Shows : Session → Request → Session → List ℕ → Type 0
+Shows s (request.Forward how) next console = console ≡ (if may_move s how then console_text next else [])
+Shows s request.BackwardContinue next console = console ≡ console_text next
+Shows s request.BackwardStep next console = console ≡ console_text next
+Shows s other next console = Unit {0}
 
 -- What a session answers to a request, and what it is then: it reads the board at its position, moves as it is asked
 -- and tells why it has stopped, and its reply fits a packet.

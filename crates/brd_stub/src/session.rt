@@ -1,6 +1,6 @@
 //! A session with GDB.
 
-ghost use Rattle.std.specs.Prelude.{◌≡◌, ◌≤◌, length, is_some, true, false, IfOk};
+ghost use Rattle.std.specs.Prelude.{◌≡◌, ◌≤◌, [], length, is_some, true, false, if◌then◌else◌, IfOk};
 ghost use Rattle.brd_gdb.specs.Receiving.{packet_size};
 ghost use Rattle.brd_debug.specs.Debugger.{shown};
 ghost use Rattle.brd_stub.specs.Answers.{
@@ -12,6 +12,9 @@ ghost use Rattle.brd_stub.specs.Answers.{
   Shows,
   console_text,
   Stops,
+  MovesForward,
+  name_in,
+  may_move,
   at_stop,
   gone_to,
   named_in,
@@ -99,7 +102,7 @@ impl Session {
         progress: &mut P,
     ) -> Result<Answer, NoMemory>
         ensures answers { IfOk result (λ answer. Answers self.old request answer.reply.items self.new) }
-        ensures shows { IfOk result (λ answer. Shows request self.new answer.console.items) }
+        ensures shows { IfOk result (λ answer. Shows self.old request self.new answer.console.items) }
     {
         self.answered(alloc, request, progress)
     }
@@ -115,14 +118,11 @@ impl Session {
             Reads (shown self.old.debugger) self.old.selection.reading request answer.reply.items) }
         ensures becomes { IfOk result (λ _. Becomes self.old request self.new) }
         ensures says { IfOk result (λ answer. Says self.old request self.new answer.reply.items) }
-        ensures shows { IfOk result (λ answer. Shows request self.new answer.console.items) }
+        ensures shows { IfOk result (λ answer. Shows self.old request self.new answer.console.items) }
         ensures short { IfOk result (λ answer. length answer.reply.items ≤ packet_size) }
     {
         match request {
-            Request::Forward(how) => {
-                let stepped = self.stepped_by(how);
-                self.go_on(alloc, stepped, progress)
-            }
+            Request::Forward(how) => self.go_forward(alloc, how, progress),
             Request::BackwardContinue => self.go_back(alloc, None, progress),
             Request::BackwardStep => {
                 let stepper = stepper_back(self.debugger.show(), self.selection.stepping());
@@ -164,6 +164,34 @@ impl Session {
                 Ok(plain(alloc, reply))
             }
         }
+    }
+
+    /// Goes on to the next stop, and tells it, unless the thread that the move names isn't there.
+    fn go_forward<P: Progress>(
+        &mut self,
+        alloc: Global,
+        how: Move,
+        progress: &mut P,
+    ) -> Result<Answer, NoMemory>
+        ensures becomes { IfOk result (λ _. MovesForward self.old how self.new) }
+        ensures says { IfOk result (λ answer. answer.reply.items
+            ≡ (if may_move self.old how then fitting (halt_text self.new.halt) else done_text false)) }
+        ensures shows { IfOk result (λ answer. answer.console.items
+            ≡ (if may_move self.old how then console_text self.new else [])) }
+        ensures short { IfOk result (λ answer. length answer.reply.items ≤ packet_size) }
+    {
+        if !self.may_move(how) {
+            return error(alloc);
+        }
+        let stepped = self.stepped_by(how);
+        self.go_on(alloc, stepped, progress)
+    }
+
+    /// Whether the thread that a move names is there.
+    fn may_move(&self, how: Move) -> bool
+        ensures { result ≡ may_move self.now how }
+    {
+        self.named(name_in(how)).is_some()
     }
 
     /// Whom a move steps, if it steps somebody, and whether he moves alone.
@@ -456,6 +484,18 @@ impl Session {
     }
 }
 
+/// The thread that a move names.
+fn name_in(how: Move) -> ThreadId
+    ensures { result ≡ name_in how }
+{
+    match how {
+        Move::Continue => ThreadId::Any,
+        Move::Step(thread) => thread,
+        Move::Alone(number) => ThreadId::One(number),
+        Move::Range { thread, .. } => thread,
+    }
+}
+
 /// What GDB's console shows where a move has ended for a reason.
 fn note_text(board: &Board, reason: Reason) -> &'static [u8]
     ensures { result.now ≡ note_text reason board.now }
@@ -496,6 +536,7 @@ fn okay(alloc: Global) -> Result<Answer, NoMemory>
 /// The answer that a request is refused.
 fn error(alloc: Global) -> Result<Answer, NoMemory>
     ensures says { IfOk result (λ answer. answer.reply.items ≡ done_text false) }
+    ensures shows { IfOk result (λ answer. answer.console.items ≡ []) }
     ensures short { IfOk result (λ answer. length answer.reply.items ≤ packet_size) }
 {
     let reply = text(alloc, b"E01")?;

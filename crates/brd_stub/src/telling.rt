@@ -101,7 +101,8 @@ pub fn short(reply: Vec<u8>) -> Vec<u8>
 
 /// The answer of this reply, with nothing for the console.
 pub fn plain(alloc: Global, reply: Vec<u8>) -> Answer
-    ensures { result.reply ≡ reply }
+    ensures reply { result.reply ≡ reply }
+    ensures console { result.console.items ≡ [] }
 {
     Answer {
         console: Vec::new(alloc),

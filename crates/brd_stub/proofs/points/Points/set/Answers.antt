@@ -10,4 +10,4 @@ invariant_of-self-2 c =
     (push-set c.self.inside.points.items c.args.point c.self.invariant (sym c.fits.ensures ∙ c.if-not-fits.false)
     (subst (λ (points : List Point). taken c.args.point.kind points + weight c.args.point ≤ places c.args.point.kind)
     c.deref-2.ensures.value
-    (omega (arith, c.taken.ensures, c.weight.ensures, c.places.ensures, c.if-taken-weight-gt-places.false))))
+    (omega (arith, c.taken.ensures, c.weight.ensures, c.places.ensures, c.if-taken-weight.false))))
