@@ -370,6 +370,37 @@ Breakpoint 1, 0x8000001c in .*
 > monitor where
 position 7 of 40: .*
 END
+# The last byte of a long watch, and the one after it, which isn't watched.
+session "a watch of many bytes" << 'END'
+> rwatch *(char (*)[49])0x80000010
+Hardware read watchpoint 1: .*
+> continue
+No more reverse-execution history\.
+> monitor reset
+at 0
+> delete
+> maintenance flush register-cache
+> rwatch *(char (*)[50])0x80000010
+Hardware read watchpoint 2: .*
+> continue
+Hardware read watchpoint 2: .*
+0x8000000c in .*
+> watch *(char (*)[512])0x80000020
+Hardware watchpoint 3: .*
+> continue
+Hardware watchpoint 3: .*
+0x80000018 in .*
+> watch *(char *)0x80000050
+Hardware watchpoint 4: .*
+> continue
+Could not insert hardware watchpoint 4\.
+> monitor where
+position 6 of 40: .*
+> delete 4
+> continue
+Hardware watchpoint 3: .*
+0x8000001c in .*
+END
 session "the bytes of unaligned loads, big-endian" << 'END'
 > rwatch *(char *)0x80000043
 Hardware read watchpoint 1: .*
@@ -547,6 +578,26 @@ Ok
 at 0
 > monitor objects
 no task waits
+> monitor back 9
+at 0
+> monitor goto 24
+at 24
+> monitor mark 9
+mark 9 stands at 24
+> monitor goto 7
+at 7
+> monitor mark 0
+mark 0 stands at 7
+> monitor back 9
+at 24
+> monitor where
+position 24 of 40: .*
+> monitor back 0
+at 7
+> monitor mark 10
+unknown; .*
+> monitor back 1
+at 0
 > monitor goto 41
 past 40
 > monitor where
@@ -555,6 +606,7 @@ position 0 of 40: a step of processor 1 comes
 goto N: goes to position N
 reset, restart: goes to position 0
 where: the position, and whose step comes
+mark N, back N: lets mark N of 0 to 9 stand here, goes to where it stands
 threads tasks, threads processors: what threads are
 tasks: the tasks and their states
 objects: who waits for what
@@ -699,6 +751,20 @@ E01
 E01
 E01
 T05thread:02;' "$(command "goto 9")" "vCont;s:2" Hc0 Hg1 s bs T2 s Hc1 T2 Hg2 bs Hc-1 T2 bs Hg3 Hc3 T3 bs
+# A step of a thread that isn't there is refused, and moves nothing: by one action, by the first of two that steps, and
+# within a range. What one continues is whatever there is.
+replies "a step of a thread that isn't there" 'E01
+E01
+E01
+E01
+E01
+QC01
+00000000
+T05thread:01;
+OK
+E01
+T05thread:02;' "vCont;s:3" "vCont;S05:104" "vCont;s:ffffffff" "vCont;c;s:3" "vCont;r80000000,80000008:3;c" qC p8 \
+    "vCont;s:1;c:7" "$(command "threads processors")" "vCont;s:9" "vCont;s:2"
 # Another position is another stop, though the one before was told: $t0 is 1 there.
 replies "a break at another position" 'OK
 T05thread:01;swbreak:;

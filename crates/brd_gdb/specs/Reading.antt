@@ -212,7 +212,9 @@ abbrev pub monitor_number : List ℕ → Option Monitor
 monitor_number text =
     if_begins (codes "goto ") (λ digits. option_map monitor.Goto (plain_decimal_of digits (2 ^ 64 - 1))) text
     (if_begins (codes "trace ") (λ digits. option_map monitor.Trace (plain_decimal_of digits (2 ^ 32 - 1))) text
-    None)
+    (if_begins (codes "mark ") (λ digits. option_map monitor.Mark (plain_decimal_of digits 9)) text
+    (if_begins (codes "back ") (λ digits. option_map monitor.Back (plain_decimal_of digits 9)) text
+    None)))
 
 abbrev pub monitor_or : Option Monitor → Monitor
 monitor_or None = monitor.Unknown

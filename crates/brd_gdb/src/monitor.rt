@@ -6,6 +6,9 @@ ghost use Rattle.brd_gdb.specs.Reading as reading;
 use crate::request::{Monitor, ThreadKind};
 use brd_text::plain_decimal;
 
+/// The last mark's number (own choice).
+const LAST_MARK: u64 = 9;
+
 /// What a text asks for.
 pub fn monitored(text: &[u8]) -> Monitor
     ensures { result ≡ reading.monitor_of text.now }
@@ -77,6 +80,14 @@ fn numbered(text: &[u8]) -> Option<Monitor>
     if let Some(digits) = text.strip_prefix(b"trace ") {
         let lines = plain_decimal(digits, u32::MAX as u64)?;
         return Some(Monitor::Trace(lines as u32));
+    }
+    if let Some(digits) = text.strip_prefix(b"mark ") {
+        let number = plain_decimal(digits, LAST_MARK)?;
+        return Some(Monitor::Mark(number as u8));
+    }
+    if let Some(digits) = text.strip_prefix(b"back ") {
+        let number = plain_decimal(digits, LAST_MARK)?;
+        return Some(Monitor::Back(number as u8));
     }
     None
 }

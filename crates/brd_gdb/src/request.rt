@@ -63,6 +63,10 @@ pub enum Monitor {
     Goto(u64),
     /// `threads tasks`, `threads processors`: what GDB's threads are from now on.
     Threads(ThreadKind),
+    /// `mark N`: to let a mark, of 0 to 9, stand at the position.
+    Mark(u8),
+    /// `back N`: to go to where a mark stands.
+    Back(u8),
     /// `where`: the position, and whose step comes.
     Where,
     /// `tasks`: the tasks and their states.

@@ -1,6 +1,6 @@
 -- What a session answers, and what becomes of it.
 use Rattle.std.specs.Prelude.{◌≡◌, ℕ, ◌≤◌, nat_le, Bool, true, false, if◌then◌else◌, is_some, List, [], length}
-use Rattle.std.specs.Prelude.{Option, Some, None, codes}
+use Rattle.std.specs.Prelude.{nat_lt, slice_index_or, slice_set, replicate, Option, Some, None, codes}
 use Rattle.brd_board.specs.declared.event.Event.{Event}
 use Rattle.brd_board.specs.Board.{BoardState}
 use Rattle.brd_debug.specs.Debugger.{shown}
@@ -12,7 +12,7 @@ use Rattle.brd_gdb.specs.declared.request.Move.TheVariants as move
 use Rattle.brd_gdb.specs.declared.request.ThreadId.{ThreadId}
 use Rattle.brd_gdb.specs.declared.request.ThreadId.TheVariants as id
 use Rattle.brd_gdb.specs.declared.request.ThreadKind.{ThreadKind}
-use Rattle.brd_gdb.specs.declared.request.Monitor.TheVariants.{Goto, Threads}
+use Rattle.brd_gdb.specs.declared.request.Monitor.TheVariants.{Goto, Threads, Mark, Back}
 use Rattle.brd_gdb.specs.declared.request.Request.{Request}
 use Rattle.brd_gdb.specs.declared.request.Request.TheVariants as request
 use Rattle.brd_stub.specs.declared.session.Session.{Session}
@@ -60,6 +60,16 @@ gone_to s position = record s {
   debugger = if nat_le position (length s.debugger.events) then moved_to s.debugger position else s.debugger;
   told = told.Nothing;
 }
+
+-- A mark stands at a position, of ten that there are; at first all stand at 0. Where there is no mark, none is set.
+abbrev pub marks_first : List ℕ
+marks_first = replicate 10 0
+
+abbrev pub marked_at : List ℕ → ℕ → ℕ → List ℕ
+marked_at marks number position = if nat_lt number 10 then slice_set marks number position else marks
+
+abbrev pub marked_here : Session → ℕ → Session
+marked_here s number = record s { marks = marked_at s.marks number s.debugger.position }
 
 -- a session of which other things are threads from now on, which they may be
 abbrev pub showing : Session → ThreadKind → Session
@@ -110,6 +120,8 @@ Becomes s request.BackwardStep next =
     (stepping s.points (of_all (Some (stepper_back (shown s.debugger) (stepping_of s.selection)))) s.debugger)) s next
 Becomes s (request.Monitor (Goto position)) next = next ≡ gone_to s position
 Becomes s (request.Monitor (Threads kind)) next = next ≡ with_threads s kind
+Becomes s (request.Monitor (Mark number)) next = next ≡ marked_here s number
+Becomes s (request.Monitor (Back number)) next = next ≡ gone_to s (slice_index_or s.marks number 0)
 Becomes s (request.SetThread moves thread) next =
     next ≡ record s { selection = selected_by moves (named_in s thread) thread s.selection }
 Becomes s (request.IsAlive thread) next =
@@ -154,8 +166,8 @@ pub record Answers (s : Session) (request : Request) (reply : List ℕ) (next : 
   pub says : Says s request next reply
   pub short : length reply ≤ packet_size
 
--- A session begins before the first event, with no point. Its threads are the tasks, if the board has some, and it
--- reads and steps the one that executes.
+-- A session begins before the first event, where all marks stand, with no point. Its threads are the tasks, if the board
+-- has some, and it reads and steps the one that executes.
 pub record Begins (boot : BoardState) (events : List Event) (s : Session) : Type 0 where
   pub debugger : s.debugger ≡ record { boot = boot; events = events; position = 0; stops = no_stops }
   pub points : s.points ≡ []
@@ -163,3 +175,4 @@ pub record Begins (boot : BoardState) (events : List Event) (s : Session) : Type
   pub kind : s.kind ≡ kind_by (first_task boot)
   pub halt : s.halt ≡ record { thread = chosen_first boot (first_task boot); reason = Reason.Done }
   pub selection : s.selection ≡ beginning (chosen_first boot (first_task boot))
+  pub marks : s.marks ≡ marks_first

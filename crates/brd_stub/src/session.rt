@@ -1,6 +1,6 @@
 //! A session with GDB.
 
-ghost use Rattle.std.specs.Prelude.{◌≡◌, ◌≤◌, [], length, is_some, true, false, if◌then◌else◌, IfOk};
+ghost use Rattle.std.specs.Prelude.{◌≡◌, ◌≤◌, [], length, slice_index_or, is_some, true, false, if◌then◌else◌, IfOk};
 ghost use Rattle.brd_gdb.specs.Receiving.{packet_size};
 ghost use Rattle.brd_debug.specs.Debugger.{shown};
 ghost use Rattle.brd_stub.specs.Answers.{
@@ -16,6 +16,8 @@ ghost use Rattle.brd_stub.specs.Answers.{
   name_in,
   may_move,
   at_stop,
+  marked_at,
+  marked_here,
   gone_to,
   named_in,
   whose_of,
@@ -44,6 +46,9 @@ use brd_journal::Journal;
 use brd_progress::Progress;
 use std::alloc::Global;
 
+/// How many marks there are (own choice).
+pub const MARKS: usize = 10;
+
 /// A session with GDB: a debugger of a boot and a journal, and what GDB has set.
 pub struct Session {
     /// The debugger.
@@ -58,6 +63,8 @@ pub struct Session {
     pub kind: ThreadKind,
     /// Which threads requests are of.
     pub selection: Selection,
+    /// At which positions the marks stand.
+    pub marks: [u64; MARKS],
 }
 
 /// Written out, so that a function that lets one go is proved with a call, and not with the end of each part.
@@ -70,6 +77,7 @@ impl Drop for Session {
             halt: _,
             kind: _,
             selection: _,
+            marks: _,
         } = self;
     }
 }
@@ -91,6 +99,7 @@ impl Session {
             },
             kind: first.kind,
             selection: Selection::new(first.thread),
+            marks: [0; MARKS],
         })
     }
 
@@ -130,6 +139,11 @@ impl Session {
             }
             Request::Monitor(Monitor::Goto(position)) => self.go_to(alloc, position, progress),
             Request::Monitor(Monitor::Threads(kind)) => self.show_threads(alloc, kind),
+            Request::Monitor(Monitor::Mark(number)) => self.mark(alloc, number),
+            Request::Monitor(Monitor::Back(number)) => {
+                let position = self.mark_at(number);
+                self.go_to(alloc, position, progress)
+            }
             Request::SetThread { moves, thread } => self.set_thread(alloc, moves, thread),
             Request::SetPoint {
                 kind,
@@ -284,6 +298,41 @@ impl Session {
         self.halt.thread = thread;
         self.selection = selection;
         true
+    }
+
+    /// Lets a mark stand at the position, and says so on GDB's console.
+    fn mark(&mut self, alloc: Global, number: u8) -> Result<Answer, NoMemory>
+        ensures becomes { IfOk result (λ _. self.new ≡ marked_here self.old number) }
+        ensures short { IfOk result (λ answer. length answer.reply.items ≤ packet_size) }
+    {
+        let position = self.debugger.position();
+        self.set_mark(number, position);
+        let console = format!(in alloc; "mark {number} stands at {position}\n")?;
+        Ok(Answer {
+            console: text(alloc, console.as_bytes())?,
+            reply: text(alloc, b"OK")?,
+        })
+    }
+
+    /// Lets a mark stand at a position; one that isn't there stands nowhere.
+    fn set_mark(&mut self, number: u8, position: u64)
+        ensures { self.new ≡ record self.old { marks = marked_at self.old.marks number position } }
+    {
+        let place = usize::from(number);
+        if place < MARKS {
+            self.marks[place] = position;
+        }
+    }
+
+    /// Where a mark stands; one that isn't there, at the beginning.
+    fn mark_at(&self, number: u8) -> u64
+        ensures { result ≡ slice_index_or self.now.marks number 0 }
+    {
+        let place = usize::from(number);
+        if place < MARKS {
+            return self.marks[place];
+        }
+        0
     }
 
     /// The thread of a name, and of any that of the last stop.
