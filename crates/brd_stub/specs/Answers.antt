@@ -166,8 +166,8 @@ pub record Answers (s : Session) (request : Request) (reply : List ℕ) (next : 
   pub says : Says s request next reply
   pub short : length reply ≤ packet_size
 
--- A session begins before the first event, where all marks stand, with no point. Its threads are the tasks, if the board
--- has some, and it reads and steps the one that executes.
+-- A session begins before the first event, where all marks stand, with no point. Its threads are the tasks, if the
+-- board has some, and it reads and steps the one that executes.
 pub record Begins (boot : BoardState) (events : List Event) (s : Session) : Type 0 where
   pub debugger : s.debugger ≡ record { boot = boot; events = events; position = 0; stops = no_stops }
   pub points : s.points ≡ []

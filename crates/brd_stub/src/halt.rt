@@ -29,7 +29,8 @@ ghost use Rattle.brd_stub.specs.Reasons.{
 };
 
 use crate::points::{Point, changed, kind_at, touched};
-use crate::threads::{Thread, Whose, show_thread, thread_on};
+use crate::thread_texts::show_thread;
+use crate::threads::{Thread, Whose, thread_on};
 use brd_base::NoMemory;
 use brd_board::{Board, Event, Report};
 use brd_debug::{Look, read_on, written_on};

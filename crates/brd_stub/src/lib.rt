@@ -17,6 +17,7 @@ mod selection;
 mod session;
 mod stepping;
 mod telling;
+mod thread_texts;
 mod threads;
 
 pub use answer::Answer;

@@ -6,7 +6,7 @@ ghost use Rattle.brd_gdb.specs.Receiving.{packet_size};
 use crate::answer::Answer;
 use crate::session::Session;
 use crate::telling::text;
-use crate::threads::{show_due, show_reason, show_standing, show_task};
+use crate::thread_texts::{show_due, show_reason, show_standing, show_task};
 use brd_base::NoMemory;
 use brd_board::{Board, Event};
 use brd_gdb::Monitor;

@@ -14,9 +14,8 @@ use crate::halt::{Halt, show_halt};
 use crate::memory::show_memory;
 use crate::registers::{context_of, show_register, show_registers};
 use crate::session::Session;
-use crate::threads::{
-    Thread, fault_at, show_thread, thread_document, thread_list, thread_named, thread_text,
-};
+use crate::thread_texts::{show_thread, thread_document, thread_list, thread_text};
+use crate::threads::{Thread, fault_at, thread_named};
 use brd_base::NoMemory;
 use brd_board::Board;
 use brd_gdb::{PACKET_SIZE, Request, ThreadId, ThreadKind, features, put_hex, put_slice};
