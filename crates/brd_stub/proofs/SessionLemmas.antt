@@ -1,18 +1,21 @@
 -- What becomes of a session by a move, and what is shown where it ends.
-use Rattle.std.proofs.Common.{◌≡◌, ℕ, List, subst, sym, ap, ◌∙◌}
-use Rattle.std.specs.Prelude.{Bool, false, if◌then◌else◌, is_some, Option, codes}
-use Rattle.std.proofs.lemmas.Bool.{cond-false}
+use Rattle.std.proofs.Common.{◌≡◌, ℕ, List, refl, subst, sym, ap, ◌∙◌}
+use Rattle.std.specs.Prelude.{Bool, true, false, if◌then◌else◌, is_some, Option, codes}
+use Rattle.std.proofs.lemmas.Bool.{cond-false, false≢true}
 use Rattle.brd_exec.specs.State.{State}
 use Rattle.brd_board.specs.Board.{BoardState, registers_of}
-use Rattle.brd_debug.specs.Debugger.{DebuggerState}
+use Rattle.brd_debug.specs.Debugger.{DebuggerState, shown}
+use Rattle.brd_gdb.specs.declared.request.Move.{Move}
 use Rattle.brd_stub.specs.declared.points.Point.{Point}
 use Rattle.brd_stub.specs.declared.halt.Told.{Told}
 use Rattle.brd_stub.specs.declared.session.Session.{Session}
 use Rattle.brd_stub.specs.declared.threads.Whose.{Whose}
 use Rattle.brd_stub.specs.Threads.{executing}
 use Rattle.brd_stub.specs.Halting.{end_text}
-use Rattle.brd_stub.specs.Moving.{Ended}
-use Rattle.brd_stub.specs.Answers.{at_stop, whose_of, Stops}
+use Rattle.brd_stub.specs.Moving.{stepping, Ended, GoesForward}
+use Rattle.brd_stub.specs.Selecting.{stepping_of}
+use Rattle.brd_stub.specs.Stepping.{stepped_by}
+use Rattle.brd_stub.specs.Answers.{at_stop, may_move, whose_of, MovesForward, Stops}
 
 -- a move of a session whose debugger was prepared for it
 pub move-ends : (Goes : List Point → Whose → Told → DebuggerState → Ended → Type 0) (s mid next : Session)
@@ -41,3 +44,15 @@ shown-at-end b off test cpu context is on same has some =
     ∙ sym (cond-false b.kernel.off (codes "The journal ends here: the board is off.\n")
     (if is_some (registers_of b (executing b 1)) then codes "The journal ends here.\n"
     else codes "The journal ends here: no processor executes anything.\n") (sym is ∙ on))
+
+-- a move forward of a thread that is there, and one of a thread that isn't
+
+pub went-forward : (s next : Session) (how : Move) → may_move s how ≡ true →
+    Stops (GoesForward s.points (whose_of s) s.told
+    (stepping s.points (stepped_by s.kind (shown s.debugger) (stepping_of s.selection) how) s.debugger)) s next →
+    MovesForward s how next
+went-forward s next how may stops =
+    record { goes = λ yes. stops; stays = λ no. absurd (false≢true (sym no ∙ may)) }
+
+pub stayed-there : (s : Session) (how : Move) → may_move s how ≡ false → MovesForward s how s
+stayed-there s how no = record { goes = λ yes. absurd (false≢true (sym no ∙ yes)); stays = λ none. refl }
