@@ -25,7 +25,7 @@ const HELD: &[u8] =
 
 /// The same, where it went on through all of RAM.
 const RAN_OFF: &[u8] =
-    b"task ? has ended by an exception, ~ at @, behind the last word of RAM: it has run off the end of the program";
+    b"task ? has ended by an exception, ~ at @, behind the last word of RAM: it may have run off the end of the program";
 
 /// The same, where what lies there is no instruction.
 const DATA: &[u8] =
@@ -95,14 +95,17 @@ fn is_fetch(fault: Fault) -> bool {
     }
 }
 
-/// The register that has this word, if one alone has it.
+/// The number of $sp, which has the end of RAM in the beginning, where no stack was placed.
+const SP: u32 = 29;
+
+/// The register that has this word, if one alone has it beside $sp.
 fn holder(context: &Context, word: u32) -> Option<Register>
     ensures { IfSome result (λ register. read context.now register ≡ word) }
 {
     let mut found = None;
     for number in 1..32u32 {
         let register = Register::low(number);
-        if context.read(register) == word {
+        if number != SP && context.read(register) == word {
             if found.is_some() {
                 return None;
             }
