@@ -54,7 +54,7 @@ ended() {
     ended "a jump by two registers" 'main: lui $t9, 0x1234\nlui $t8, 0x1234\njr $t9\nnop\n' \
         "IBE at 0x12340000: trace --summary says more"
     ended "a run off the end" 'main: nop\n' \
-        "IBE at 0x80010000, behind the last word of RAM: it may have run off the end of the program"
+        "IBE at 0x80010000, behind all of RAM: it may have run off the end of the program"
     ended "a jump into data" 'main: b x\nnop\nx: .word 5\n' \
         "RI at 0x80000008, where no instruction lies: trace --summary says more"
     ended "a branch in a slot" 'main: b main\nb main\nnop\n' "RI at 0x80000004: trace --summary says more"

@@ -25,7 +25,7 @@ const HELD: &[u8] =
 
 /// The same, where it went on through all of RAM.
 const RAN_OFF: &[u8] =
-    b"task ? has ended by an exception, ~ at @, behind the last word of RAM: it may have run off the end of the program";
+    b"task ? has ended by an exception, ~ at @, behind all of RAM: it may have run off the end of the program";
 
 /// The same, where what lies there is no instruction.
 const DATA: &[u8] =
