@@ -56,3 +56,15 @@ went-forward s next how may stops =
 
 pub stayed-there : (s : Session) (how : Move) → may_move s how ≡ false → MovesForward s how s
 stayed-there s how no = record { goes = λ yes. absurd (false≢true (sym no ∙ yes)); stays = λ none. refl }
+
+-- what is said of such a move
+
+pub said-on : (test : Bool) (whole none said : List ℕ) → test ≡ true → said ≡ whole →
+    said ≡ (if test then whole else none)
+said-on true whole none said is same = same
+said-on false whole none said is same = absurd (false≢true is)
+
+pub said-none : (test : Bool) (whole none said : List ℕ) → test ≡ false → said ≡ none →
+    said ≡ (if test then whole else none)
+said-none true whole none said is same = absurd (false≢true (sym is))
+said-none false whole none said is same = same
