@@ -5,7 +5,7 @@ use Rattle.std.specs.Prelude.{ℕ, ◌==◌, ◌||◌, nat_le, if◌then◌else�
 abbrev pub most_marks : ℕ
 most_marks = 64
 
--- how many addresses a set of breaks or watches has room for: 64 ranges of 8 bytes (own choice)
+-- how many addresses a set of breaks or watches has room for (own choice)
 abbrev pub most_addresses : ℕ
 most_addresses = 512
 

@@ -9,7 +9,7 @@ use std::marker::Model;
 /// How many addresses a set has at most that come one by one (own choice).
 pub const MOST_MARKS: usize = 64;
 
-/// How many addresses a set has room for: those of 64 ranges of 8 bytes (own choice).
+/// How many addresses a set has room for (own choice).
 pub const MOST_ADDRESSES: usize = 512;
 
 /// At most 512 addresses, to which none is added twice. They take no memory of their own.
