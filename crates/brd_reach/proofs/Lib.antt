@@ -5,4 +5,3 @@ pub mod WalkLemmas
 pub mod LoopLemmas
 pub mod RoundLemmas
 pub mod AnswerLemmas
-pub mod EndlessLemmas

@@ -11,8 +11,8 @@ const MOST_CONSOLES: usize = 64;
 /// A way from the place of an index to that of another one.
 #[derive(Clone, Copy)]
 struct Way {
-    from: u32,
-    to: u32,
+    from: usize,
+    to: usize,
 }
 
 /// The ways from places that were gone through.
@@ -85,10 +85,7 @@ impl Ways {
 
     /// A way leads from a place to a place.
     pub fn add(&mut self, from: usize, to: usize) -> Result<(), NoMemory> {
-        self.ways.push(Way {
-            from: from as u32,
-            to: to as u32,
-        })?;
+        self.ways.push(Way { from, to })?;
         Ok(())
     }
 
@@ -131,8 +128,7 @@ impl Ways {
 
 /// A place leads on from which a way leads to one that does. Answers whether it didn't before.
 fn step(lead: &mut [bool], way: Way) -> bool {
-    let from = way.from as usize;
-    let to = way.to as usize;
+    let Way { from, to } = way;
     if from >= lead.len() || to >= lead.len() || lead[from] || !lead[to] {
         return false;
     }

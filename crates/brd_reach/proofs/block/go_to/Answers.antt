@@ -20,6 +20,11 @@ returns-then-same c = λ b early well before kept walked.
     walk-stays (sharing_of c.args.sharing.now) b c.args.cpu early (c.loop-at.at + 1) c.step.new.board (omega (arith, before, c.loop-at.auto.at)) well
     (subst (HasWalked (sharing_of c.args.sharing.now) b c.args.cpu early) (sym (c.if-same.ensures.0 refl)) kept) on
 
+pub returns : goal.returns
+returns c = λ b early well before kept walked.
+    subst (λ n. HasWalked (sharing_of c.args.sharing.now) b c.args.cpu n c.loop-at.board)
+    (omega (arith, c.loop-at-test.false, c.loop-at.auto.at-end)) (c.loop-at.invariant b walked)
+
 pub loop-at-preserved : goal.loop-at-preserved
 loop-at-preserved c = λ b walked.
     let at = c.loop-at.invariant b walked in

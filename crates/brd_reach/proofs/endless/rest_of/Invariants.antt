@@ -5,4 +5,4 @@ use Rattle.brd_reach.specs.Endless.{rest_after}
 use Rattle.brd_reach.proofs.endless.rest_of.Given as goal
 
 abbrev pub invariant-loop-event : goal.invariant-loop-event
-invariant-loop-event l = l.rest ≡ fold rest_after l.left (take l.event-index l.events)
+invariant-loop-event l = l.rest ≡ fold rest_after l.fn.left (take l.event-index l.events)

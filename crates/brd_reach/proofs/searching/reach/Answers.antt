@@ -3,7 +3,7 @@ use Rattle.brd_places.specs.Places.{Place}
 use Rattle.brd_blocks.specs.Owning.{sharing_of}
 use Rattle.brd_reach.specs.Rounds.{IsMore, RoundSo}
 use Rattle.brd_reach.proofs.RoundLemmas.{get-more}
-use Rattle.brd_reach.proofs.AnswerLemmas.{holds-so, fails-so}
+use Rattle.brd_reach.proofs.AnswerLemmas.{all-stay, holds-so, fails-so}
 use Rattle.brd_reach.proofs.searching.reach.Goals as goal
 
 pub returns-in-Holds : goal.returns-in-Holds
@@ -22,3 +22,7 @@ returns-in-Fails c =
     (subst (λ (xs : List Place). IsMore xs c.visit_all.new.places) c.in_ok-places.ensures c.visit_all.ensures.more) refl in
     fails-so c.args.wanted.now found.0 _ (omega (arith, c.if-wanted-ne0.false)) found.2
     (c.in_ok-path-in-Fails.ensures first found.0 begins found.1)
+
+pub loop-preserved : goal.loop-preserved
+loop-preserved c =
+    all-stay (sharing_of c.loop.sharing) (sharing_of c.learn.new.sharing) c.args.wanted.now.failures c.learn.ensures c.loop.invariant
