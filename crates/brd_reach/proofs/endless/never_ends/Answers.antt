@@ -16,8 +16,8 @@ use Rattle.brd_reach.specs.Endless.{NeverEnds, no_end}
 use Rattle.brd_reach.proofs.endless.never_ends.Goals as goal
 
 not-true : (it : Bool) → (it ≡ true → ⊥) → it ≡ false
-not-true true no = absurd (no refl)
-not-true false no = refl
+not-true true contrary = absurd (contrary refl)
+not-true false contrary = refl
 
 end-so : (ends : Bool) → ends ≡ true → ((ends && true) || false) ≡ true
 end-so true is = refl

@@ -17,9 +17,9 @@ use Rattle.brd_reach.specs.Endless.{AreAll, no_other}
 use Rattle.brd_reach.proofs.endless.show_all.Goals as goal
 
 listed-so : (ends has : Bool) → ends ≡ true → (((ends && (not has || false)) || false) ≡ true → ⊥) → has ≡ true
-listed-so true true is no = refl
-listed-so true false is no = absurd (no refl)
-listed-so false has is no = absurd (false≢true is)
+listed-so true true is contrary = refl
+listed-so true false is contrary = absurd (contrary refl)
+listed-so false has is contrary = absurd (false≢true is)
 
 is-listed : (texts : List (List ℕ)) (b : BoardState) (left : Bounds) → (fails_at (no_other texts) b left ≡ true → ⊥) →
     is_end b left ≡ true → list_any (bytes_eq b.kernel.console) texts ≡ true
