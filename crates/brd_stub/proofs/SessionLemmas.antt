@@ -52,10 +52,10 @@ pub went-forward : (s next : Session) (how : Move) → may_move s how ≡ true �
     (stepping s.points (stepped_by s.kind (shown s.debugger) (stepping_of s.selection) how) s.debugger)) s next →
     MovesForward s how next
 went-forward s next how may stops =
-    record { goes = λ yes. stops; stays = λ no. absurd (false≢true (sym no ∙ may)) }
+    record { goes = λ yes. stops; stays = λ missing. absurd (false≢true (sym missing ∙ may)) }
 
 pub stayed-there : (s : Session) (how : Move) → may_move s how ≡ false → MovesForward s how s
-stayed-there s how no = record { goes = λ yes. absurd (false≢true (sym no ∙ yes)); stays = λ none. refl }
+stayed-there s how missing = record { goes = λ yes. absurd (false≢true (sym missing ∙ yes)); stays = λ none. refl }
 
 -- what is said of such a move
 
