@@ -11,11 +11,12 @@ pub fn idle_steps(board: Board, journal: &Journal) -> u64 {
     let mut near = 0;
     let mut idle = 0u64;
     while playback.at < len {
-        let Some(rest) = journal.rest_at(playback.at, &mut near) else {
+        let at = playback.at;
+        let Some(rest) = journal.rest_at(at, &mut near) else {
             return idle;
         };
         if playback.go_on(rest, len) == 0 {
-            let moved = playback.advance(rest, playback.at + 1, len);
+            let moved = playback.advance(rest, at + 1, len);
             idle = idle.saturating_add(idle_of(moved));
         }
     }

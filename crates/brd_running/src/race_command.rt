@@ -212,15 +212,24 @@ fn shown_of<K: Race>(
     let journal = station.journal().write_text(alloc)?;
     let report = report(alloc, station.board(), station.journal().len())?;
     let turns = Turns::of(station);
-    let idle = if shows && turns.are_few() {
-        idle_steps(start.board.try_copy()?, station.journal())
-    } else {
-        0
-    };
+    let idle = idle_of(start, station, turns, shows)?;
     Ok(Shown {
         journal,
         report,
         turns,
         idle,
     })
+}
+
+/// How many steps of a race from this start did nothing, if that is shown.
+fn idle_of<K: Race>(
+    start: &RaceStart,
+    station: &Station<K>,
+    turns: Turns,
+    shows: bool,
+) -> Result<u64, NoMemory> {
+    if shows && turns.are_few() {
+        return Ok(idle_steps(start.board.try_copy()?, station.journal()));
+    }
+    Ok(0)
 }
