@@ -62,11 +62,6 @@ impl Way {
         }
     }
 
-    /// The last branch or jump, if it has led to this address.
-    fn taken_to(self, place: u32) -> Option<Taken> {
-        if place == self.next { self.taken } else { None }
-    }
-
     /// The way after what it did at an address.
     fn after(self, place: u32, what: &What) -> Way {
         match *what {
@@ -104,13 +99,16 @@ impl Way {
 
     /// The way behind an address, or out of a delay slot.
     fn gone_on(self, place: u32) -> Way {
-        let taken = self.taken_to(place);
-        let next = match taken {
-            Some(taken) if self.in_slot => taken.target,
-            _ => place.wrapping_add(4),
-        };
+        let Way {
+            who,
+            taken,
+            next,
+            in_slot,
+        } = self;
+        let taken = if place == next { taken } else { None };
+        let next = next_of(taken.as_ref(), in_slot, place);
         Way {
-            who: self.who,
+            who,
             taken,
             next,
             in_slot: false,
@@ -118,16 +116,26 @@ impl Way {
     }
 
     /// How it came to an address at which it raised this exception, if that is known.
-    fn arrival(self, place: u32, what: &What) -> Option<Arrival> {
-        if self.in_slot || !is_of_place(what) {
+    fn arrival(&self, place: u32, what: &What) -> Option<Arrival> {
+        let Way {
+            who,
+            taken,
+            next,
+            in_slot,
+        } = *self;
+        if in_slot || place != next || !is_of_place(what) {
             return None;
         }
-        let taken = self.taken_to(place)?;
-        Some(Arrival {
-            who: self.who,
-            taken,
-            place,
-        })
+        let taken = taken?;
+        Some(Arrival { who, taken, place })
+    }
+}
+
+/// Where one goes on behind an address, or out of the delay slot of a jump that was taken.
+fn next_of(taken: Option<&Taken>, in_slot: bool, place: u32) -> u32 {
+    match taken {
+        Some(taken) if in_slot => taken.target,
+        _ => place.wrapping_add(4),
     }
 }
 
@@ -162,10 +170,19 @@ impl Arrivals {
             self.ways.clear();
         }
         let way = self.way_of(who);
-        if let (What::Exception(_), Some(cpu)) = (told.what, told.cpu) {
-            self.keep(cpu, way.arrival(place, &told.what));
-        }
+        self.note(told, &way, place);
         self.put(way.after(place, &told.what))
+    }
+
+    /// Keeps how somebody came to an address, if an exception was raised there.
+    fn note(&mut self, told: &Happening, way: &Way, place: u32) {
+        if !matches!(told.what, What::Exception(_)) {
+            return;
+        }
+        if let Some(cpu) = told.cpu {
+            let arrival = way.arrival(place, &told.what);
+            self.keep(cpu, arrival);
+        }
     }
 
     /// The way of who executes.
