@@ -36,12 +36,12 @@ by_session KillProcess s after bytes no_mode no_detach no_process no_kill adds =
 by_session other s after bytes no_mode no_detach no_process no_kill adds = (adds, refl)
 
 -- what is shown of a move is the session's text
-pub shows-so : (request : Request) (s : Session) (said text : List ℕ) → Shows request s said →
-    IsShown request said text → Shows request s text
-shows-so (Forward how) s said text shows is = is ∙ shows
-shows-so BackwardContinue s said text shows is = is ∙ shows
-shows-so BackwardStep s said text shows is = is ∙ shows
-shows-so other s said text shows is = tt
+pub shows-so : (request : Request) (before s : Session) (said text : List ℕ) → Shows before request s said →
+    IsShown request said text → Shows before request s text
+shows-so (Forward how) before s said text shows is = is ∙ shows
+shows-so BackwardContinue before s said text shows is = is ∙ shows
+shows-so BackwardStep before s said text shows is = is ∙ shows
+shows-so other before s said text shows is = tt
 
 pub shown-so : (request : Request) (said text : List ℕ) → text ≡ said → IsShown request said text
 shown-so (Monitor command) said text same = tt

@@ -16,7 +16,7 @@ returns g c =
       reply = c.in_ok-answer.answer.reply.items;
       shown = shown;
       answers = c.in_ok-answer.ensures.answers;
-      tells = shows-so c.args.request c.answer.new.self c.in_ok-answer.answer.console.items c.in_ok-shown.shown.items
+      tells = shows-so c.args.request c.args.self.now.session c.answer.new.self c.in_ok-answer.answer.console.items c.in_ok-shown.shown.items
           c.in_ok-answer.ensures.shows
           (subst (λ (said : List ℕ). IsShown c.args.request said c.in_ok-shown.shown.items) c.deref.ensures.value
           c.in_ok-shown.ensures);
