@@ -396,7 +396,8 @@ for option in "--fair 1" "--remember 1" "--shard 1/1" --shortest; do
     refuses "--places goes with none of --fair, --reach, --remember, --shard and --shortest" --places 10 $option
 done
 refuses "not known: there are more than --places places" --places 1
-refuses "--livelock goes with --places" --livelock
+refuses "--livelock and --finals go with --places" --livelock
+refuses "--livelock and --finals go with --places" --finals
 refuses "--remember is a number of MiB from 0 to 4,096" --remember 4097
 refuses "--raises says how often lines may be raised, and --lines which" --raises 1
 refuses "--raises says how often lines may be raised, and --lines which" --lines 3

@@ -158,7 +158,7 @@ if have cc "kit: the benchmark on this machine"; then
     {
         echo '#include <stdio.h>'
         echo '#include <string.h>'
-        sed -n '/^typedef/p' sdk/include/itron.h
+        sed -n '/^typedef.*;$/p' sdk/include/itron.h
         sed -n '/^#define BYTES/,/^void bench/p' tests/data/bench/bench.c | sed '$d'
         echo 'int main(void) { printf("3 rounds: %08x\n", rounds_of(works, 3)); }'
     } > "$work/bench.c"
