@@ -482,7 +482,7 @@ fi
 
 if have python3 "searches beside the model"; then
     check_script "searches beside the model" tests/model/searches "$board" --boards 60
-    check_script "searches without bounds beside the model" tests/model/endless "$board" --boards 40
+    check_script "searches without bounds beside the model" tests/model/endless "$board" --small --boards 60
 fi
 
 summary
