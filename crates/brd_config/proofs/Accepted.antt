@@ -23,22 +23,24 @@ use Rattle.brd_config.specs.declared.objects.SemaphoreConfig.{SemaphoreConfig}
 use Rattle.brd_config.specs.declared.objects.FlagConfig.{FlagConfig}
 use Rattle.brd_config.specs.declared.objects.QueueConfig.{QueueConfig}
 use Rattle.brd_config.specs.declared.objects.SpinLockConfig.{SpinLockConfig}
+use Rattle.brd_config.specs.declared.objects.MutexConfig.{MutexConfig}
 use Rattle.brd_config.specs.declared.objects.HandlerConfig.{HandlerConfig}
 use Rattle.brd_config.specs.declared.statement.Statement.{Statement}
-use Rattle.brd_config.specs.declared.statement.Statement.TheVariants.{Board, Class, ClassEnd, Task, Semaphore, Flag, Queue, SpinLock, Handler}
+use Rattle.brd_config.specs.declared.statement.Statement.TheVariants.{Board, Class, ClassEnd, Task, Semaphore, Flag, Queue, SpinLock, Mutex, Handler}
 use Rattle.brd_config.specs.declared.statement.TaskStatement.{TaskStatement}
 use Rattle.brd_config.specs.declared.statement.SemaphoreStatement.{SemaphoreStatement}
 use Rattle.brd_config.specs.declared.statement.FlagStatement.{FlagStatement}
 use Rattle.brd_config.specs.declared.statement.QueueStatement.{QueueStatement}
 use Rattle.brd_config.specs.declared.statement.SpinLockStatement.{SpinLockStatement}
+use Rattle.brd_config.specs.declared.statement.MutexStatement.{MutexStatement}
 use Rattle.brd_config.specs.declared.statement.HandlerStatement.{HandlerStatement}
-use Rattle.brd_config.specs.Configuration.{Configuration, IsWithin, IsTask, IsSemaphore, IsFlag, IsQueue, IsSpinLock, IsHandler, IsConfiguration}
+use Rattle.brd_config.specs.Configuration.{Configuration, IsWithin, IsTask, IsSemaphore, IsFlag, IsQueue, IsSpinLock, IsMutex, least_ceiling, IsHandler, IsConfiguration}
 use Rattle.brd_config.specs.Statements.{statement_at}
-use Rattle.brd_config.specs.Meaning.{State, within, only_bits, task_numbers, task_of, semaphore_of, flag_of, queue_of, spin_lock_of, handler_of, added, processor_of, is_end, one_more, statement_step, statements_from, board_of, first_board, first_statement, has_profile, opened, config_from, config_of}
+use Rattle.brd_config.specs.Meaning.{State, within, only_bits, task_numbers, task_of, semaphore_of, flag_of, queue_of, spin_lock_of, mutex_of, meant_protocol, handler_of, added, processor_of, is_end, one_more, statement_step, statements_from, board_of, first_board, first_statement, has_profile, opened, config_from, config_of}
 use Rattle.brd_config.proofs.RamSize.{ram_again}
-use Rattle.brd_config.specs.Grammar.Piece.{Exactly, Sign, Numeral, Attributes, Value, StackValue, Area, ClassName}
-use Rattle.brd_config.specs.Grammar.{Piece, IsSpelled, AreSpelled, form, profile_form, IsText, tasks_of, semaphores_of, flags_of, queues_of, spin_locks_of, handlers_of, task_said, semaphore_said, flag_said, queue_said, spin_lock_said, handler_said, said, AreNested, AreValid, Says}
-use Rattle.brd_config.proofs.Forms.{Ahead, MayStand, exactly_step, first_sign, object_pieces, bare_object_pieces, board_again, statement_again}
+use Rattle.brd_config.specs.Grammar.Piece.{Exactly, Sign, Numeral, Attributes, Value, StackValue, Area, ClassName, Protocol}
+use Rattle.brd_config.specs.Grammar.{Piece, IsSpelled, AreSpelled, form, profile_form, IsText, tasks_of, semaphores_of, flags_of, queues_of, spin_locks_of, mutexes_of, handlers_of, task_said, semaphore_said, flag_said, queue_said, spin_lock_said, mutex_said, handler_said, said, AreNested, AreValid, Says}
+use Rattle.brd_config.proofs.Forms.{Ahead, MayStand, exactly_step, first_sign, object_pieces, bare_object_pieces, mutex_pieces, board_again, statement_again}
 
 -- ---- lists
 
@@ -114,6 +116,16 @@ unfolding spin_lock_of
 spin_lock_again line spin_locks ys t bits v apart =
     rw (within_again 1 255 (BadId line) t.id v.id, new_key (λ o. o.id) spin_locks (spin_lock_said t) ys apart, only_bits_again 0 (BadAttribute line) t.attributes (omega (arith, bits))) refl
 
+mutex_again : (line : ℕ) (mutexes ys : List MutexConfig) (t : MutexStatement) → t.protocol ≤ 3 → IsMutex (mutex_said t) → AllPairs (λ s t. s.id ≢ t.id) (mutexes ++ mutex_said t ∷ ys) → mutex_of line mutexes t ≡ Ok (mutex_said t)
+unfolding mutex_of
+mutex_again line mutexes ys t few v apart =
+    rw (
+      within_again 1 255 (BadId line) t.id v.id,
+      new_key (λ o. o.id) mutexes (mutex_said t) ys apart,
+      within_again 0 3 (BadAttribute line) t.protocol (from_zero 3 t.protocol few),
+      within_again (least_ceiling (meant_protocol t.protocol)) 16 (BadPriority line) t.ceiling v.ceiling,
+    ) refl
+
 handler_again : (line : ℕ) (handlers ys : List HandlerConfig) (processors processor : ℕ) (t : HandlerStatement)
     → t.attributes ≤ 1 → IsHandler processors (handler_said processor t) → AllPairs (λ s t. s.line ≢ t.line) (handlers ++ handler_said processor t ∷ ys) → handler_of line handlers processor t ≡ Ok (handler_said processor t)
 unfolding handler_of
@@ -132,6 +144,7 @@ pub record Leads (whole c : Configuration) (class : Option ℕ) (ss : List State
   pub flags : whole.flags ≡ c.flags ++ flags_of ss
   pub queues : whole.queues ≡ c.queues ++ queues_of ss
   pub spin_locks : whole.spin_locks ≡ c.spin_locks ++ spin_locks_of ss
+  pub mutexes : whole.mutexes ≡ c.mutexes ++ mutexes_of ss
   pub handlers : whole.handlers ≡ c.handlers ++ handlers_of class ss
 
 regroup : {X : Type 0} (xs : List X) (x : X) (ys : List X) → xs ++ x ∷ ys ≡ (xs ++ x ∷ []) ++ ys
@@ -142,21 +155,21 @@ record GoesOn (line : ℕ) (whole c : Configuration) (class : Option ℕ) (x : S
   state : State
   accepted : added line (record { config = c; class = class }) x ≡ Ok state
   leads : Leads whole state.config state.class ss
-  nested : AreNested state.config.processors state.class ss
+  nested : AreNested state.config.standard state.config.processors state.class ss
 
-goes_on : (line : ℕ) (whole c : Configuration) (class : Option ℕ) (x : Statement) (ss : List Statement) → IsConfiguration whole → Leads whole c class (x ∷ ss) → AreNested c.processors class (x ∷ ss) → GoesOn line whole c class x ss
+goes_on : (line : ℕ) (whole c : Configuration) (class : Option ℕ) (x : Statement) (ss : List Statement) → IsConfiguration whole → Leads whole c class (x ∷ ss) → AreNested c.standard c.processors class (x ∷ ss) → GoesOn line whole c class x ss
 unfolding added
 goes_on line whole c class (Board processors ram) ss valid l nested = absurd nested
 goes_on line whole c class (Class n) ss valid l nested = record {
   state = record { config = c; class = Some n };
   accepted = rw (within_again 1 c.processors (BadProcessor line) n nested.1) refl;
-  leads = record { standard = l.standard; processors = l.processors; ram = l.ram; tasks = l.tasks; semaphores = l.semaphores; flags = l.flags; queues = l.queues; spin_locks = l.spin_locks; handlers = l.handlers };
+  leads = record { standard = l.standard; processors = l.processors; ram = l.ram; tasks = l.tasks; semaphores = l.semaphores; flags = l.flags; queues = l.queues; spin_locks = l.spin_locks; mutexes = l.mutexes; handlers = l.handlers };
   nested = nested.2;
 }
 goes_on line whole c class ClassEnd ss valid l nested = record {
   state = record { config = c; class = None };
   accepted = refl;
-  leads = record { standard = l.standard; processors = l.processors; ram = l.ram; tasks = l.tasks; semaphores = l.semaphores; flags = l.flags; queues = l.queues; spin_locks = l.spin_locks; handlers = l.handlers };
+  leads = record { standard = l.standard; processors = l.processors; ram = l.ram; tasks = l.tasks; semaphores = l.semaphores; flags = l.flags; queues = l.queues; spin_locks = l.spin_locks; mutexes = l.mutexes; handlers = l.handlers };
   nested = nested.1;
 }
 goes_on line whole c class (Task x) ss valid l nested =
@@ -165,7 +178,7 @@ goes_on line whole c class (Task x) ss valid l nested =
     record {
       state = record { config = record c { tasks = c.tasks ++ (task_said (processor_of class) x) ∷ [] }; class = class };
       accepted = rw (task_again line c.tasks (tasks_of class ss) whole.processors (processor_of class) x one apart) refl;
-      leads = record { standard = l.standard; processors = l.processors; ram = l.ram; tasks = l.tasks ∙ regroup c.tasks (task_said (processor_of class) x) (tasks_of class ss); semaphores = l.semaphores; flags = l.flags; queues = l.queues; spin_locks = l.spin_locks; handlers = l.handlers };
+      leads = record { standard = l.standard; processors = l.processors; ram = l.ram; tasks = l.tasks ∙ regroup c.tasks (task_said (processor_of class) x) (tasks_of class ss); semaphores = l.semaphores; flags = l.flags; queues = l.queues; spin_locks = l.spin_locks; mutexes = l.mutexes; handlers = l.handlers };
       nested = nested;
     }
 goes_on line whole c class (Semaphore x) ss valid l nested =
@@ -174,7 +187,7 @@ goes_on line whole c class (Semaphore x) ss valid l nested =
     record {
       state = record { config = record c { semaphores = c.semaphores ++ (semaphore_said x) ∷ [] }; class = class };
       accepted = rw (semaphore_again line c.semaphores (semaphores_of ss) x one apart) refl;
-      leads = record { standard = l.standard; processors = l.processors; ram = l.ram; tasks = l.tasks; semaphores = l.semaphores ∙ regroup c.semaphores (semaphore_said x) (semaphores_of ss); flags = l.flags; queues = l.queues; spin_locks = l.spin_locks; handlers = l.handlers };
+      leads = record { standard = l.standard; processors = l.processors; ram = l.ram; tasks = l.tasks; semaphores = l.semaphores ∙ regroup c.semaphores (semaphore_said x) (semaphores_of ss); flags = l.flags; queues = l.queues; spin_locks = l.spin_locks; mutexes = l.mutexes; handlers = l.handlers };
       nested = nested;
     }
 goes_on line whole c class (Flag x) ss valid l nested =
@@ -183,7 +196,7 @@ goes_on line whole c class (Flag x) ss valid l nested =
     record {
       state = record { config = record c { flags = c.flags ++ (flag_said x) ∷ [] }; class = class };
       accepted = rw (flag_again line c.flags (flags_of ss) x one apart) refl;
-      leads = record { standard = l.standard; processors = l.processors; ram = l.ram; tasks = l.tasks; semaphores = l.semaphores; flags = l.flags ∙ regroup c.flags (flag_said x) (flags_of ss); queues = l.queues; spin_locks = l.spin_locks; handlers = l.handlers };
+      leads = record { standard = l.standard; processors = l.processors; ram = l.ram; tasks = l.tasks; semaphores = l.semaphores; flags = l.flags ∙ regroup c.flags (flag_said x) (flags_of ss); queues = l.queues; spin_locks = l.spin_locks; mutexes = l.mutexes; handlers = l.handlers };
       nested = nested;
     }
 goes_on line whole c class (Queue x) ss valid l nested =
@@ -192,7 +205,7 @@ goes_on line whole c class (Queue x) ss valid l nested =
     record {
       state = record { config = record c { queues = c.queues ++ (queue_said x) ∷ [] }; class = class };
       accepted = rw (queue_again line c.queues (queues_of ss) x one apart) refl;
-      leads = record { standard = l.standard; processors = l.processors; ram = l.ram; tasks = l.tasks; semaphores = l.semaphores; flags = l.flags; queues = l.queues ∙ regroup c.queues (queue_said x) (queues_of ss); spin_locks = l.spin_locks; handlers = l.handlers };
+      leads = record { standard = l.standard; processors = l.processors; ram = l.ram; tasks = l.tasks; semaphores = l.semaphores; flags = l.flags; queues = l.queues ∙ regroup c.queues (queue_said x) (queues_of ss); spin_locks = l.spin_locks; mutexes = l.mutexes; handlers = l.handlers };
       nested = nested;
     }
 goes_on line whole c class (SpinLock x) ss valid l nested =
@@ -201,8 +214,17 @@ goes_on line whole c class (SpinLock x) ss valid l nested =
     record {
       state = record { config = record c { spin_locks = c.spin_locks ++ (spin_lock_said x) ∷ [] }; class = class };
       accepted = rw (spin_lock_again line c.spin_locks (spin_locks_of ss) x nested.0 one apart) refl;
-      leads = record { standard = l.standard; processors = l.processors; ram = l.ram; tasks = l.tasks; semaphores = l.semaphores; flags = l.flags; queues = l.queues; spin_locks = l.spin_locks ∙ regroup c.spin_locks (spin_lock_said x) (spin_locks_of ss); handlers = l.handlers };
+      leads = record { standard = l.standard; processors = l.processors; ram = l.ram; tasks = l.tasks; semaphores = l.semaphores; flags = l.flags; queues = l.queues; spin_locks = l.spin_locks ∙ regroup c.spin_locks (spin_lock_said x) (spin_locks_of ss); mutexes = l.mutexes; handlers = l.handlers };
       nested = nested.1;
+    }
+goes_on line whole c class (Mutex x) ss valid l nested =
+    let one = middle IsMutex c.mutexes (mutex_said x) (mutexes_of ss) (subst (All IsMutex) l.mutexes valid.mutexes) in
+    let apart = subst (AllPairs (λ s t. s.id ≢ t.id)) l.mutexes valid.mutex_ids in
+    record {
+      state = record { config = record c { mutexes = c.mutexes ++ (mutex_said x) ∷ [] }; class = class };
+      accepted = rw (mutex_again line c.mutexes (mutexes_of ss) x nested.1 one apart) refl;
+      leads = record { standard = l.standard; processors = l.processors; ram = l.ram; tasks = l.tasks; semaphores = l.semaphores; flags = l.flags; queues = l.queues; spin_locks = l.spin_locks; mutexes = l.mutexes ∙ regroup c.mutexes (mutex_said x) (mutexes_of ss); handlers = l.handlers };
+      nested = nested.2;
     }
 goes_on line whole c class (Handler x) ss valid l nested =
     let one = middle (IsHandler whole.processors) c.handlers (handler_said (processor_of class) x) (handlers_of class ss) (subst (All (IsHandler whole.processors)) l.handlers valid.handlers) in
@@ -210,24 +232,25 @@ goes_on line whole c class (Handler x) ss valid l nested =
     record {
       state = record { config = record c { handlers = c.handlers ++ (handler_said (processor_of class) x) ∷ [] }; class = class };
       accepted = rw (handler_again line c.handlers (handlers_of class ss) whole.processors (processor_of class) x nested.0 one apart) refl;
-      leads = record { standard = l.standard; processors = l.processors; ram = l.ram; tasks = l.tasks; semaphores = l.semaphores; flags = l.flags; queues = l.queues; spin_locks = l.spin_locks; handlers = l.handlers ∙ regroup c.handlers (handler_said (processor_of class) x) (handlers_of class ss) };
+      leads = record { standard = l.standard; processors = l.processors; ram = l.ram; tasks = l.tasks; semaphores = l.semaphores; flags = l.flags; queues = l.queues; spin_locks = l.spin_locks; mutexes = l.mutexes; handlers = l.handlers ∙ regroup c.handlers (handler_said (processor_of class) x) (handlers_of class ss) };
       nested = nested.1;
     }
 
 -- ---- the text
 
-may_stand : (processors : ℕ) (class : Option ℕ) (x : Statement) (ss : List Statement) → AreNested processors class (x ∷ ss) → MayStand (is_some class) x
-may_stand processors class (Board p ram) ss nested = tt
-may_stand processors None (Class n) ss nested = refl
-may_stand processors (Some m) (Class n) ss nested = absurd nested.0
-may_stand processors None ClassEnd ss nested = absurd nested.0
-may_stand processors (Some m) ClassEnd ss nested = refl
-may_stand processors class (Task x) ss nested = tt
-may_stand processors class (Semaphore x) ss nested = tt
-may_stand processors class (Flag x) ss nested = tt
-may_stand processors class (Queue x) ss nested = tt
-may_stand processors class (SpinLock x) ss nested = tt
-may_stand processors class (Handler x) ss nested = tt
+may_stand : (standard : Bool) (processors : ℕ) (class : Option ℕ) (x : Statement) (ss : List Statement) → AreNested standard processors class (x ∷ ss) → MayStand standard (is_some class) x
+may_stand standard processors class (Board p ram) ss nested = tt
+may_stand standard processors None (Class n) ss nested = refl
+may_stand standard processors (Some m) (Class n) ss nested = absurd nested.0
+may_stand standard processors None ClassEnd ss nested = absurd nested.0
+may_stand standard processors (Some m) ClassEnd ss nested = refl
+may_stand standard processors class (Task x) ss nested = tt
+may_stand standard processors class (Semaphore x) ss nested = tt
+may_stand standard processors class (Flag x) ss nested = tt
+may_stand standard processors class (Queue x) ss nested = tt
+may_stand standard processors class (SpinLock x) ss nested = tt
+may_stand standard processors class (Mutex x) ss nested = nested.0
+may_stand standard processors class (Handler x) ss nested = tt
 
 -- a text of no tokens
 at_its_end : (t : Text) → bare_tokens t ≡ [] → (first t).token ≡ End
@@ -246,6 +269,7 @@ IsOneToken (Value v) = ⊥
 IsOneToken (StackValue v) = ⊥
 IsOneToken Area = ⊥
 IsOneToken (ClassName n) = ⊥
+IsOneToken (Protocol n) = ⊥
 
 -- a text that begins with this piece, which is one token
 not_at_end : (p : Piece) (ps : List Piece) (t : Text) → IsOneToken p → Ahead (p ∷ ps) t → is_end (first t).token ≡ false
@@ -257,6 +281,7 @@ not_at_end (Value v) ps t one s = absurd one
 not_at_end (StackValue v) ps t one s = absurd one
 not_at_end Area ps t one s = absurd one
 not_at_end (ClassName n) ps t one s = absurd one
+not_at_end (Protocol n) ps t one s = absurd one
 
 begins_statement : (x : Statement) (ps : List Piece) (t : Text) → Ahead (form x ++ ps) t → is_end (first t).token ≡ false
 begins_statement (Board processors ram) ps t s = not_at_end (Exactly (codes "BOARD")) (Sign 40 ∷ Numeral processors ∷ Sign 44 ∷ Numeral ram ∷ Sign 41 ∷ Sign 59 ∷ ps) t tt s
@@ -267,21 +292,22 @@ begins_statement (Semaphore x) ps t s = not_at_end (Exactly (codes "CRE_SEM")) (
 begins_statement (Flag x) ps t s = not_at_end (Exactly (codes "CRE_FLG")) (object_pieces x.id x.attributes (Numeral x.pattern ∷ []) ps) t tt s
 begins_statement (Queue x) ps t s = not_at_end (Exactly (codes "CRE_DTQ")) (object_pieces x.id x.attributes (Numeral x.capacity ∷ Sign 44 ∷ Area ∷ []) ps) t tt s
 begins_statement (SpinLock x) ps t s = not_at_end (Exactly (codes "CRE_SPN")) (bare_object_pieces x.id x.attributes ps) t tt s
+begins_statement (Mutex x) ps t s = not_at_end (Exactly (codes "CRE_MTX")) (mutex_pieces x.id x.protocol x.ceiling ps) t tt s
 begins_statement (Handler x) ps t s = not_at_end (Exactly (codes "DEF_INH")) (object_pieces x.line x.attributes (Value x.address ∷ []) ps) t tt s
 
 and_false : (b : Bool) → (b && false) ≡ false
 and_false true = refl
 and_false false = refl
 
-abbrev entry : Bool → ℕ → ℕ → List TaskConfig → List SemaphoreConfig → List FlagConfig → List QueueConfig → List SpinLockConfig → List HandlerConfig → Configuration
-entry b p r ts ss fs qs ls hs = record { standard = b; processors = p; ram = r; tasks = ts; semaphores = ss; flags = fs; queues = qs; spin_locks = ls; handlers = hs }
+abbrev entry : Bool → ℕ → ℕ → List TaskConfig → List SemaphoreConfig → List FlagConfig → List QueueConfig → List SpinLockConfig → List MutexConfig → List HandlerConfig → Configuration
+entry b p r ts ss fs qs ls xs hs = record { standard = b; processors = p; ram = r; tasks = ts; semaphores = ss; flags = fs; queues = qs; spin_locks = ls; mutexes = xs; handlers = hs }
 
-same : (a b : Bool) → a ≡ b → (p q : ℕ) → p ≡ q → (r s : ℕ) → r ≡ s → (ts us : List TaskConfig) → ts ≡ us → (ss vs : List SemaphoreConfig) → ss ≡ vs → (fs gs : List FlagConfig) → fs ≡ gs → (qs rs : List QueueConfig) → qs ≡ rs → (ls ms : List SpinLockConfig) → ls ≡ ms → (hs ks : List HandlerConfig) → hs ≡ ks
-    → entry a p r ts ss fs qs ls hs ≡ entry b q s us vs gs rs ms ks
-same a b e p q e0 r s e1 ts us e2 ss vs e3 fs gs e4 qs rs e5 ls ms e6 hs ks e7 = rw (e, e0, e1, e2, e3, e4, e5, e6, e7) refl
+same : (a b : Bool) → a ≡ b → (p q : ℕ) → p ≡ q → (r s : ℕ) → r ≡ s → (ts us : List TaskConfig) → ts ≡ us → (ss vs : List SemaphoreConfig) → ss ≡ vs → (fs gs : List FlagConfig) → fs ≡ gs → (qs rs : List QueueConfig) → qs ≡ rs → (ls ms : List SpinLockConfig) → ls ≡ ms → (xs zs : List MutexConfig) → xs ≡ zs → (hs ks : List HandlerConfig) → hs ≡ ks
+    → entry a p r ts ss fs qs ls xs hs ≡ entry b q s us vs gs rs ms zs ks
+same a b e p q e0 r s e1 ts us e2 ss vs e3 fs gs e4 qs rs e5 ls ms e6 xs zs e8 hs ks e7 = rw (e, e0, e1, e2, e3, e4, e5, e6, e8, e7) refl
 
 -- one turn over a statement
-step_again : (c : Configuration) (class : Option ℕ) (x : Statement) (next : State) (t u : Text) → is_end (first t).token ≡ false → statement_at (is_some class) t ≡ Ok (x, u) → added (first t).line (record { config = c; class = class }) x ≡ Ok next
+step_again : (c : Configuration) (class : Option ℕ) (x : Statement) (next : State) (t u : Text) → is_end (first t).token ≡ false → statement_at c.standard (is_some class) t ≡ Ok (x, u) → added (first t).line (record { config = c; class = class }) x ≡ Ok next
     → statement_step (record { config = c; class = class }, t) ≡ Ok (More (next, u))
 unfolding statement_step one_more
 step_again c class x next t u begins read accepted = rw (begins, and_false (is_none class), read, accepted) refl
@@ -298,17 +324,18 @@ all_said whole c class l =
     let flags = l.flags ∙ append-nil c.flags in
     let queues = l.queues ∙ append-nil c.queues in
     let spin_locks = l.spin_locks ∙ append-nil c.spin_locks in
+    let mutexes = l.mutexes ∙ append-nil c.mutexes in
     let handlers = l.handlers ∙ append-nil c.handlers in
-    sym (same whole.standard c.standard l.standard whole.processors c.processors l.processors whole.ram c.ram l.ram whole.tasks c.tasks tasks whole.semaphores c.semaphores semaphores whole.flags c.flags flags whole.queues c.queues queues whole.spin_locks c.spin_locks spin_locks whole.handlers c.handlers handlers)
+    sym (same whole.standard c.standard l.standard whole.processors c.processors l.processors whole.ram c.ram l.ram whole.tasks c.tasks tasks whole.semaphores c.semaphores semaphores whole.flags c.flags flags whole.queues c.queues queues whole.spin_locks c.spin_locks spin_locks whole.mutexes c.mutexes mutexes whole.handlers c.handlers handlers)
 
-run_again : (whole c : Configuration) (class : Option ℕ) (ss : List Statement) (t : Text) → IsConfiguration whole → Leads whole c class ss → AreNested c.processors class ss → AreSpelled (flat_map form ss) (bare_tokens t)
+run_again : (whole c : Configuration) (class : Option ℕ) (ss : List Statement) (t : Text) → IsConfiguration whole → Leads whole c class ss → AreNested c.standard c.processors class ss → AreSpelled (flat_map form ss) (bare_tokens t)
     → repeated NoMemory statement_step (suc (length ss)) (record { config = c; class = class }, t) ≡ Ok whole
 unfolding repeated
 run_again whole c None [] t valid l nested s = rw (last_step c t s) (ap (λ (w : Configuration). Ok w) (all_said whole c None l))
 run_again whole c (Some n) [] t valid l nested s = absurd nested
 run_again whole c class (x ∷ ss) t valid l nested s =
     let g = goes_on (first t).line whole c class x ss valid l nested in
-    let r = statement_again (is_some class) x (flat_map form ss) t (may_stand c.processors class x ss nested) s in
+    let r = statement_again c.standard (is_some class) x (flat_map form ss) t (may_stand c.standard c.processors class x ss nested) s in
     let step = step_again c class x g.state t r.0 (begins_statement x (flat_map form ss) t s) r.1 g.accepted in
     rw step (run_again whole g.state.config g.state.class ss r.0 valid g.leads g.nested r.2)
 
@@ -335,6 +362,7 @@ first_less p ps qs tokens one s =
     one_long (StackValue v) front one e = absurd one
     one_long Area front one e = absurd one
     one_long (ClassName n) front one e = absurd one
+    one_long (Protocol n) front one e = absurd one
 
 form_less : (x : Statement) (qs : List Piece) (tokens : List Token) → AreSpelled (form x ++ qs) tokens → (rest : List Token) × AreSpelled qs rest × (length rest < length tokens)
 form_less (Board processors ram) qs tokens s = first_less (Exactly (codes "BOARD")) (Sign 40 ∷ Numeral processors ∷ Sign 44 ∷ Numeral ram ∷ Sign 41 ∷ Sign 59 ∷ []) qs tokens tt s
@@ -345,6 +373,7 @@ form_less (Semaphore x) qs tokens s = first_less (Exactly (codes "CRE_SEM")) (ob
 form_less (Flag x) qs tokens s = first_less (Exactly (codes "CRE_FLG")) (object_pieces x.id x.attributes (Numeral x.pattern ∷ []) []) qs tokens tt s
 form_less (Queue x) qs tokens s = first_less (Exactly (codes "CRE_DTQ")) (object_pieces x.id x.attributes (Numeral x.capacity ∷ Sign 44 ∷ Area ∷ []) []) qs tokens tt s
 form_less (SpinLock x) qs tokens s = first_less (Exactly (codes "CRE_SPN")) (bare_object_pieces x.id x.attributes []) qs tokens tt s
+form_less (Mutex x) qs tokens s = first_less (Exactly (codes "CRE_MTX")) (mutex_pieces x.id x.protocol x.ceiling []) qs tokens tt s
 form_less (Handler x) qs tokens s = first_less (Exactly (codes "DEF_INH")) (object_pieces x.line x.attributes (Value x.address ∷ []) []) qs tokens tt s
 
 -- each statement has a token
@@ -358,7 +387,7 @@ enough (x ∷ ss) tokens s =
 
 -- a board alone
 abbrev pub started : Bool → ℕ → ℕ → Configuration
-started standard processors ram = record { standard = standard; processors = processors; ram = ram; tasks = []; semaphores = []; flags = []; queues = []; spin_locks = []; handlers = [] }
+started standard processors ram = record { standard = standard; processors = processors; ram = ram; tasks = []; semaphores = []; flags = []; queues = []; spin_locks = []; mutexes = []; handlers = [] }
 
 board_of_again : (standard : Bool) (line processors ram : ℕ) → IsWithin 1 8 processors → IsRamSize ram → board_of standard line processors ram ≡ Ok (started standard processors ram)
 unfolding board_of
@@ -399,7 +428,7 @@ from_board : (standard : Bool) (processors ram : ℕ) (ss : List Statement) (t :
 unfolding config_from statements_from
 from_board standard processors ram ss t s valid =
     let f = first_again standard processors ram (flat_map form ss) t valid.values.processors valid.values.ram s in
-    let leads : Leads (said standard processors ram ss) (started standard processors ram) None ss = record { standard = refl; processors = refl; ram = refl; tasks = refl; semaphores = refl; flags = refl; queues = refl; spin_locks = refl; handlers = refl } in
+    let leads : Leads (said standard processors ram ss) (started standard processors ram) None ss = record { standard = refl; processors = refl; ram = refl; tasks = refl; semaphores = refl; flags = refl; queues = refl; spin_locks = refl; mutexes = refl; handlers = refl } in
     let run = run_again (said standard processors ram ss) (started standard processors ram) None ss f.0 valid.values leads valid.nested f.2 in
     let long : suc (length ss) ≤ suc (length f.0.tokens) = omega (arith, enough ss (bare_tokens f.0) f.2, length-map f.0.tokens (λ p. p.token)) in
     rw f.1 (more_turns NoMemory statement_step (suc (length ss)) (suc (length f.0.tokens)) (record { config = started standard processors ram; class = None }, f.0) (said standard processors ram ss) long run)

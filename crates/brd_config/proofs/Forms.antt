@@ -13,17 +13,18 @@ use Rattle.brd_config.specs.declared.fault.ConfigFault.TheVariants.{NoMemory}
 use Rattle.brd_config.specs.declared.objects.Operand.{Operand}
 use Rattle.brd_config.specs.declared.objects.Stack.{Stack}
 use Rattle.brd_config.specs.declared.statement.Statement.{Statement}
-use Rattle.brd_config.specs.declared.statement.Statement.TheVariants.{Board, Class, ClassEnd, Task, Semaphore, Flag, Queue, SpinLock, Handler}
+use Rattle.brd_config.specs.declared.statement.Statement.TheVariants.{Board, Class, ClassEnd, Task, Semaphore, Flag, Queue, SpinLock, Mutex, Handler}
 use Rattle.brd_config.specs.declared.statement.TaskStatement.{TaskStatement}
 use Rattle.brd_config.specs.declared.statement.SemaphoreStatement.{SemaphoreStatement}
 use Rattle.brd_config.specs.declared.statement.FlagStatement.{FlagStatement}
 use Rattle.brd_config.specs.declared.statement.QueueStatement.{QueueStatement}
 use Rattle.brd_config.specs.declared.statement.SpinLockStatement.{SpinLockStatement}
+use Rattle.brd_config.specs.declared.statement.MutexStatement.{MutexStatement}
 use Rattle.brd_config.specs.declared.statement.HandlerStatement.{HandlerStatement}
-use Rattle.brd_config.specs.Statements.{keyword_of, board_at, class_at, task_tail_at, task_at, semaphore_at, flag_at, queue_at, spin_lock_at, handler_at, behind_keyword, statement_at}
-use Rattle.brd_config.specs.Reading.{attribute_of, number_at, mark_at, attribute_at, joint_at, attribute_step, attributes_at, operand_at, stack_at, area_at, class_number_at, listed_number_at, listed_operand_at, head_at, tail_at}
+use Rattle.brd_config.specs.Statements.{keyword_of, board_at, class_at, task_tail_at, task_at, semaphore_at, flag_at, queue_at, spin_lock_at, mutex_at, handler_at, behind_keyword, statement_at}
+use Rattle.brd_config.specs.Reading.{attribute_of, number_at, mark_at, attribute_at, joint_at, attribute_step, attributes_at, operand_at, stack_at, area_at, class_number_at, protocol_at, listed_number_at, listed_operand_at, head_at, tail_at}
 use Rattle.brd_config.specs.Grammar.{Piece, Joined, AreSpelled, form}
-use Rattle.brd_config.specs.Grammar.Piece.{Exactly, Sign, Numeral, Attributes, Value, StackValue, Area, ClassName}
+use Rattle.brd_config.specs.Grammar.Piece.{Exactly, Sign, Numeral, Attributes, Value, StackValue, Area, ClassName, Protocol}
 use Rattle.brd_config.specs.Grammar.Joined.{last, bar}
 
 -- the first token of a text, and the rest
@@ -77,6 +78,12 @@ area_step ps t s =
 pub class_name_step : (n : ℕ) (ps : List Piece) (t : Text) → Ahead (ClassName n ∷ ps) t → (class_number_at t ≡ Ok (n, others t)) × Ahead ps (others t)
 unfolding class_number_at
 class_name_step n ps t s =
+    let one = one_piece (Run s.2.0) ps t s.0 s.1 s.2.1 s.3 s.4 in
+    (rw (one.0, s.2.2) refl, one.1)
+
+pub protocol_step : (n : ℕ) (ps : List Piece) (t : Text) → Ahead (Protocol n ∷ ps) t → (protocol_at t ≡ Ok (n, others t)) × Ahead ps (others t)
+unfolding protocol_at
+protocol_step n ps t s =
     let one = one_piece (Run s.2.0) ps t s.0 s.1 s.2.1 s.3 s.4 in
     (rw (one.0, s.2.2) refl, one.1)
 
@@ -275,6 +282,29 @@ spin_lock_again x ps t s =
     let b = sign_step 59 ps (others t0) a.1 in
     (others (others t0), rw (h.1, a.0, b.0) refl, b.1)
 
+-- ( id , { attribute , ceiling } ) ; and what follows
+abbrev pub mutex_pieces : ℕ → ℕ → ℕ → List Piece → List Piece
+mutex_pieces id protocol ceiling ps = Sign 40 ∷ Numeral id ∷ Sign 44 ∷ Sign 123 ∷ Protocol protocol ∷ Sign 44 ∷ Numeral ceiling ∷ Sign 125 ∷ Sign 41 ∷ Sign 59 ∷ ps
+
+mutex_again : (x : MutexStatement) (ps : List Piece) (t : Text) → Ahead (mutex_pieces x.id x.protocol x.ceiling ps) t → Reads (mutex_at t) (Mutex x) ps
+unfolding mutex_at
+mutex_again x ps t s =
+    let end = Sign 125 ∷ Sign 41 ∷ Sign 59 ∷ ps in
+    let a = sign_step 40 (Numeral x.id ∷ Sign 44 ∷ Sign 123 ∷ Protocol x.protocol ∷ Sign 44 ∷ Numeral x.ceiling ∷ end) t s in
+    let t1 = others t in
+    let b = listed_number_step x.id (Sign 123 ∷ Protocol x.protocol ∷ Sign 44 ∷ Numeral x.ceiling ∷ end) t1 a.1 in
+    let t2 = others (others t1) in
+    let c = sign_step 123 (Protocol x.protocol ∷ Sign 44 ∷ Numeral x.ceiling ∷ end) t2 b.1 in
+    let t3 = others t2 in
+    let d = protocol_step x.protocol (Sign 44 ∷ Numeral x.ceiling ∷ end) t3 c.1 in
+    let t4 = others t3 in
+    let f = sign_step 44 (Numeral x.ceiling ∷ end) t4 d.1 in
+    let t5 = others t4 in
+    let g = numeral_step x.ceiling end t5 f.1 in
+    let t6 = others t5 in
+    let l = tail_step ps t6 g.1 in
+    (others (others (others t6)), rw (a.0, b.0, c.0, d.0, f.0, g.0, l.0) refl, l.1)
+
 handler_again : (x : HandlerStatement) (ps : List Piece) (t : Text) → Ahead (object_pieces x.line x.attributes (Value x.address ∷ []) ps) t → Reads (handler_at t) (Handler x) ps
 unfolding handler_at
 handler_again x ps t s =
@@ -286,52 +316,57 @@ handler_again x ps t s =
     let l = tail_step ps t1 a.1 in
     (others (others (others t1)), rw (h.1, a.0, l.0) refl, l.1)
 
--- Where a statement may stand: classes outside of classes, their ends inside.
-abbrev pub MayStand : Bool → Statement → Type 0
-MayStand in_class (Board processors ram) = Unit {0}
-MayStand in_class (Class n) = in_class ≡ false
-MayStand in_class ClassEnd = in_class ≡ true
-MayStand in_class (Task x) = Unit {0}
-MayStand in_class (Semaphore x) = Unit {0}
-MayStand in_class (Flag x) = Unit {0}
-MayStand in_class (Queue x) = Unit {0}
-MayStand in_class (SpinLock x) = Unit {0}
-MayStand in_class (Handler x) = Unit {0}
+-- Where a statement may stand: classes outside of classes, their ends inside, mutexes in the profile.
+abbrev pub MayStand : Bool → Bool → Statement → Type 0
+MayStand standard in_class (Board processors ram) = Unit {0}
+MayStand standard in_class (Class n) = in_class ≡ false
+MayStand standard in_class ClassEnd = in_class ≡ true
+MayStand standard in_class (Task x) = Unit {0}
+MayStand standard in_class (Semaphore x) = Unit {0}
+MayStand standard in_class (Flag x) = Unit {0}
+MayStand standard in_class (Queue x) = Unit {0}
+MayStand standard in_class (SpinLock x) = Unit {0}
+MayStand standard in_class (Mutex x) = standard ≡ true
+MayStand standard in_class (Handler x) = Unit {0}
 
-pub statement_again : (in_class : Bool) (x : Statement) (ps : List Piece) (t : Text) → MayStand in_class x → Ahead (form x ++ ps) t → Reads (statement_at in_class t) x ps
+pub statement_again : (standard in_class : Bool) (x : Statement) (ps : List Piece) (t : Text) → MayStand standard in_class x → Ahead (form x ++ ps) t → Reads (statement_at standard in_class t) x ps
 unfolding statement_at behind_keyword keyword_of
-statement_again in_class (Board processors ram) ps t may s =
+statement_again standard in_class (Board processors ram) ps t may s =
     let f = exactly_step (codes "BOARD") (Sign 40 ∷ Numeral processors ∷ Sign 44 ∷ Numeral ram ∷ Sign 41 ∷ Sign 59 ∷ ps) t s in
     let r = board_again processors ram ps (others t) f.1 in
     (r.0, rw (f.0, r.1) refl, r.2)
-statement_again in_class (Class n) ps t may s =
+statement_again standard in_class (Class n) ps t may s =
     let f = exactly_step (codes "CLASS") (Sign 40 ∷ ClassName n ∷ Sign 41 ∷ Sign 123 ∷ ps) t s in
     let r = class_again n ps (others t) f.1 in
     (r.0, rw (f.0, may) r.1, r.2)
-statement_again in_class ClassEnd ps t may s =
+statement_again standard in_class ClassEnd ps t may s =
     let f = first_sign 125 ps t s in
     (others t, rw (f.0, may) refl, f.1)
-statement_again in_class (Task x) ps t may s =
+statement_again standard in_class (Task x) ps t may s =
     let f = exactly_step (codes "CRE_TSK") (object_pieces x.id x.attributes (Value x.exinf ∷ Sign 44 ∷ Value x.address ∷ Sign 44 ∷ Numeral x.priority ∷ Sign 44 ∷ Numeral x.stack_size ∷ Sign 44 ∷ StackValue x.stack ∷ []) ps) t s in
     let r = task_again x ps (others t) f.1 in
     (r.0, rw f.0 r.1, r.2)
-statement_again in_class (Semaphore x) ps t may s =
+statement_again standard in_class (Semaphore x) ps t may s =
     let f = exactly_step (codes "CRE_SEM") (object_pieces x.id x.attributes (Numeral x.initial ∷ Sign 44 ∷ Numeral x.maximum ∷ []) ps) t s in
     let r = semaphore_again x ps (others t) f.1 in
     (r.0, rw f.0 r.1, r.2)
-statement_again in_class (Flag x) ps t may s =
+statement_again standard in_class (Flag x) ps t may s =
     let f = exactly_step (codes "CRE_FLG") (object_pieces x.id x.attributes (Numeral x.pattern ∷ []) ps) t s in
     let r = flag_again x ps (others t) f.1 in
     (r.0, rw f.0 r.1, r.2)
-statement_again in_class (Queue x) ps t may s =
+statement_again standard in_class (Queue x) ps t may s =
     let f = exactly_step (codes "CRE_DTQ") (object_pieces x.id x.attributes (Numeral x.capacity ∷ Sign 44 ∷ Area ∷ []) ps) t s in
     let r = queue_again x ps (others t) f.1 in
     (r.0, rw f.0 r.1, r.2)
-statement_again in_class (SpinLock x) ps t may s =
+statement_again standard in_class (SpinLock x) ps t may s =
     let f = exactly_step (codes "CRE_SPN") (bare_object_pieces x.id x.attributes ps) t s in
     let r = spin_lock_again x ps (others t) f.1 in
     (r.0, rw f.0 r.1, r.2)
-statement_again in_class (Handler x) ps t may s =
+statement_again standard in_class (Mutex x) ps t may s =
+    let f = exactly_step (codes "CRE_MTX") (mutex_pieces x.id x.protocol x.ceiling ps) t s in
+    let r = mutex_again x ps (others t) f.1 in
+    (r.0, rw (f.0, may) r.1, r.2)
+statement_again standard in_class (Handler x) ps t may s =
     let f = exactly_step (codes "DEF_INH") (object_pieces x.line x.attributes (Value x.address ∷ []) ps) t s in
     let r = handler_again x ps (others t) f.1 in
     (r.0, rw f.0 r.1, r.2)

@@ -20,11 +20,11 @@ use Rattle.brd_config.specs.declared.objects.Stack.{Stack}
 use Rattle.brd_config.specs.declared.statement.Keyword.{Keyword}
 use Rattle.brd_config.specs.declared.statement.Keyword.TheVariants as keywords
 use Rattle.brd_config.specs.declared.statement.Statement.{Statement}
-use Rattle.brd_config.specs.declared.statement.Statement.TheVariants.{Board, Class, ClassEnd, Task, Semaphore, Flag, Queue, SpinLock, Handler}
-use Rattle.brd_config.specs.Statements.{keyword_names, keyword_of, board_at, class_at, task_tail_at, task_at, semaphore_at, flag_at, queue_at, spin_lock_at, handler_at, behind_keyword, statement_by, statement_at}
-use Rattle.brd_config.specs.Reading.{named_in, attribute_of, class_of, operand_of, stack_of, is_area, run_of, number_at, expect_mark, mark_at, attribute_at, expect_joint, joint_at, attribute_step, attributes_at, operand_at, stack_at, area_at, class_number_at, listed_number_at, listed_operand_at, head_at, tail_at}
+use Rattle.brd_config.specs.declared.statement.Statement.TheVariants.{Board, Class, ClassEnd, Task, Semaphore, Flag, Queue, SpinLock, Mutex, Handler}
+use Rattle.brd_config.specs.Statements.{keyword_names, keyword_of, board_at, class_at, task_tail_at, task_at, semaphore_at, flag_at, queue_at, spin_lock_at, mutex_at, handler_at, behind_keyword, statement_by, statement_at}
+use Rattle.brd_config.specs.Reading.{named_in, attribute_of, class_of, protocol_of, operand_of, stack_of, is_area, run_of, number_at, expect_mark, mark_at, attribute_at, expect_joint, joint_at, attribute_step, attributes_at, operand_at, stack_at, area_at, class_number_at, protocol_at, listed_number_at, listed_operand_at, head_at, tail_at}
 use Rattle.brd_config.specs.Grammar.{Piece, Joined, IsSpelled, AreSpelled, form}
-use Rattle.brd_config.specs.Grammar.Piece.{Exactly, Sign, Numeral, Attributes, Value, StackValue, Area, ClassName}
+use Rattle.brd_config.specs.Grammar.Piece.{Exactly, Sign, Numeral, Attributes, Value, StackValue, Area, ClassName, Protocol}
 use Rattle.brd_config.specs.Grammar.Joined.{last, bar}
 use Rattle.brd_config.proofs.Forms.{MayStand}
 
@@ -113,6 +113,10 @@ value_back t r e = value_front operand_of Value (λ v run h. (run, refl, h)) t r
 stack_back : (t : Text) (r : Stack × Text) → stack_at t ≡ Ok r → Front (StackValue r.0 ∷ []) t r.1
 unfolding stack_at
 stack_back t r e = value_front stack_of StackValue (λ v run h. (run, refl, h)) t r e
+
+protocol_back : (t : Text) (r : ℕ × Text) → protocol_at t ≡ Ok r → Front (Protocol r.0 ∷ []) t r.1
+unfolding protocol_at
+protocol_back t r e = value_front protocol_of Protocol (λ n run h. (run, refl, h)) t r e
 
 class_name_back : (t : Text) (r : ℕ × Text) → class_number_at t ≡ Ok r → Front (ClassName r.0 ∷ []) t r.1
 unfolding class_number_at
@@ -286,18 +290,19 @@ keyword_name keywords.Semaphore = codes "CRE_SEM"
 keyword_name keywords.Flag = codes "CRE_FLG"
 keyword_name keywords.Queue = codes "CRE_DTQ"
 keyword_name keywords.SpinLock = codes "CRE_SPN"
+keyword_name keywords.Mutex = codes "CRE_MTX"
 keyword_name keywords.Handler = codes "DEF_INH"
 
 -- after its first token a statement has the rest of its form, and it may stand here
-record Behind (name : List ℕ) (in_class : Bool) (t : Text) (r : Statement × Text) : Type 0 where
+record Behind (name : List ℕ) (standard in_class : Bool) (t : Text) (r : Statement × Text) : Type 0 where
   whole : (s : Text) → Front (Exactly name ∷ []) s t → Front (form r.0) s r.1
-  may : MayStand in_class r.0
+  may : MayStand standard in_class r.0
 
-class_back : (t : Text) (r : Statement × Text) → class_at t ≡ Ok r → Behind (codes "CLASS") false t r
+class_back : (standard : Bool) (t : Text) (r : Statement × Text) → class_at t ≡ Ok r → Behind (codes "CLASS") standard false t r
 unfolding class_at
-class_back t r e =
+class_back standard t r e =
     e gives λ opened a e. e gives λ n b e. e gives λ closed c e. e gives λ inner d e.
-    subst (Behind (codes "CLASS") false t) (ok_is (Class n.0, inner) r e)
+    subst (Behind (codes "CLASS") standard false t) (ok_is (Class n.0, inner) r e)
     (record { whole = λ s x. x then sign_back 40 t opened a then class_name_back opened n b then sign_back 41 n.1 closed c then sign_back 123 closed inner d; may = refl })
 
 -- priority , size , stack } ) ;
@@ -308,64 +313,76 @@ task_tail_back t r e =
     subst (λ (q : ℕ × ℕ × Stack × Text). Front (Numeral q.0 ∷ Sign 44 ∷ Numeral q.1 ∷ Sign 44 ∷ StackValue q.2 ∷ Sign 125 ∷ Sign 41 ∷ Sign 59 ∷ []) t q.3) (ok_is (priority.0, size.0, stack.0, ended) r e)
     (listed_number_back t priority a then listed_number_back priority.1 size b then stack_back size.1 stack c then tail_back stack.1 ended d)
 
-task_back : (in_class : Bool) (t : Text) (r : Statement × Text) → task_at t ≡ Ok r → Behind (codes "CRE_TSK") in_class t r
+task_back : (standard in_class : Bool) (t : Text) (r : Statement × Text) → task_at t ≡ Ok r → Behind (codes "CRE_TSK") standard in_class t r
 unfolding task_at
-task_back in_class t r e =
+task_back standard in_class t r e =
     e gives λ head h e. e gives λ exinf a e. e gives λ address b e. e gives λ rest c e.
-    subst (Behind (codes "CRE_TSK") in_class t) (ok_is (Task (record { id = head.0; attributes = head.1; exinf = exinf.0; address = address.0; priority = rest.0; stack_size = rest.1; stack = rest.2 }), rest.3) r e)
+    subst (Behind (codes "CRE_TSK") standard in_class t) (ok_is (Task (record { id = head.0; attributes = head.1; exinf = exinf.0; address = address.0; priority = rest.0; stack_size = rest.1; stack = rest.2 }), rest.3) r e)
     (record {
       whole = λ s x. x then head_back 44 t head h then listed_operand_back head.2 exinf a then listed_operand_back exinf.1 address b then task_tail_back address.1 rest c;
       may = tt;
     })
 
-semaphore_back : (in_class : Bool) (t : Text) (r : Statement × Text) → semaphore_at t ≡ Ok r → Behind (codes "CRE_SEM") in_class t r
+semaphore_back : (standard in_class : Bool) (t : Text) (r : Statement × Text) → semaphore_at t ≡ Ok r → Behind (codes "CRE_SEM") standard in_class t r
 unfolding semaphore_at
-semaphore_back in_class t r e =
+semaphore_back standard in_class t r e =
     e gives λ head h e. e gives λ initial a e. e gives λ maximum b e. e gives λ ended l e.
-    subst (Behind (codes "CRE_SEM") in_class t) (ok_is (Semaphore (record { id = head.0; attributes = head.1; initial = initial.0; maximum = maximum.0 }), ended) r e)
+    subst (Behind (codes "CRE_SEM") standard in_class t) (ok_is (Semaphore (record { id = head.0; attributes = head.1; initial = initial.0; maximum = maximum.0 }), ended) r e)
     (record { whole = λ s x. x then head_back 44 t head h then listed_number_back head.2 initial a then numeral_back initial.1 maximum b then tail_back maximum.1 ended l; may = tt })
 
-flag_back : (in_class : Bool) (t : Text) (r : Statement × Text) → flag_at t ≡ Ok r → Behind (codes "CRE_FLG") in_class t r
+flag_back : (standard in_class : Bool) (t : Text) (r : Statement × Text) → flag_at t ≡ Ok r → Behind (codes "CRE_FLG") standard in_class t r
 unfolding flag_at
-flag_back in_class t r e =
+flag_back standard in_class t r e =
     e gives λ head h e. e gives λ pattern a e. e gives λ ended l e.
-    subst (Behind (codes "CRE_FLG") in_class t) (ok_is (Flag (record { id = head.0; attributes = head.1; pattern = pattern.0 }), ended) r e)
+    subst (Behind (codes "CRE_FLG") standard in_class t) (ok_is (Flag (record { id = head.0; attributes = head.1; pattern = pattern.0 }), ended) r e)
     (record { whole = λ s x. x then head_back 44 t head h then numeral_back head.2 pattern a then tail_back pattern.1 ended l; may = tt })
 
-queue_back : (in_class : Bool) (t : Text) (r : Statement × Text) → queue_at t ≡ Ok r → Behind (codes "CRE_DTQ") in_class t r
+queue_back : (standard in_class : Bool) (t : Text) (r : Statement × Text) → queue_at t ≡ Ok r → Behind (codes "CRE_DTQ") standard in_class t r
 unfolding queue_at
-queue_back in_class t r e =
+queue_back standard in_class t r e =
     e gives λ head h e. e gives λ capacity a e. e gives λ area b e. e gives λ ended l e.
-    subst (Behind (codes "CRE_DTQ") in_class t) (ok_is (Queue (record { id = head.0; attributes = head.1; capacity = capacity.0 }), ended) r e)
+    subst (Behind (codes "CRE_DTQ") standard in_class t) (ok_is (Queue (record { id = head.0; attributes = head.1; capacity = capacity.0 }), ended) r e)
     (record { whole = λ s x. x then head_back 44 t head h then listed_number_back head.2 capacity a then area_back capacity.1 area b then tail_back area ended l; may = tt })
 
-spin_lock_back : (in_class : Bool) (t : Text) (r : Statement × Text) → spin_lock_at t ≡ Ok r → Behind (codes "CRE_SPN") in_class t r
+spin_lock_back : (standard in_class : Bool) (t : Text) (r : Statement × Text) → spin_lock_at t ≡ Ok r → Behind (codes "CRE_SPN") standard in_class t r
 unfolding spin_lock_at
-spin_lock_back in_class t r e =
+spin_lock_back standard in_class t r e =
     e gives λ head h e. e gives λ closed a e. e gives λ ended b e.
-    subst (Behind (codes "CRE_SPN") in_class t) (ok_is (SpinLock (record { id = head.0; attributes = head.1 }), ended) r e)
+    subst (Behind (codes "CRE_SPN") standard in_class t) (ok_is (SpinLock (record { id = head.0; attributes = head.1 }), ended) r e)
     (record { whole = λ s x. x then head_back 125 t head h then sign_back 41 head.2 closed a then sign_back 59 closed ended b; may = tt })
 
-handler_back : (in_class : Bool) (t : Text) (r : Statement × Text) → handler_at t ≡ Ok r → Behind (codes "DEF_INH") in_class t r
+mutex_back : (in_class : Bool) (t : Text) (r : Statement × Text) → mutex_at t ≡ Ok r → Behind (codes "CRE_MTX") true in_class t r
+unfolding mutex_at
+mutex_back in_class t r e =
+    e gives λ opened a e. e gives λ id b e. e gives λ inner c e. e gives λ protocol d e. e gives λ listed f e. e gives λ ceiling g e. e gives λ ended l e.
+    subst (Behind (codes "CRE_MTX") true in_class t) (ok_is (Mutex (record { id = id.0; protocol = protocol.0; ceiling = ceiling.0 }), ended) r e)
+    (record {
+      whole = λ s x. x then sign_back 40 t opened a then listed_number_back opened id b then sign_back 123 id.1 inner c then protocol_back inner protocol d then sign_back 44 protocol.1 listed f then numeral_back listed ceiling g then tail_back ceiling.1 ended l;
+      may = refl;
+    })
+
+handler_back : (standard in_class : Bool) (t : Text) (r : Statement × Text) → handler_at t ≡ Ok r → Behind (codes "DEF_INH") standard in_class t r
 unfolding handler_at
-handler_back in_class t r e =
+handler_back standard in_class t r e =
     e gives λ head h e. e gives λ address a e. e gives λ ended l e.
-    subst (Behind (codes "DEF_INH") in_class t) (ok_is (Handler (record { line = head.0; attributes = head.1; address = address.0 }), ended) r e)
+    subst (Behind (codes "DEF_INH") standard in_class t) (ok_is (Handler (record { line = head.0; attributes = head.1; address = address.0 }), ended) r e)
     (record { whole = λ s x. x then head_back 44 t head h then value_back head.2 address a then tail_back address.1 ended l; may = tt })
 
-behind_back : (in_class : Bool) (line : ℕ) (k : Keyword) (t : Text) (r : Statement × Text) → behind_keyword in_class line k t ≡ Ok r → Behind (keyword_name k) in_class t r
+behind_back : (standard in_class : Bool) (line : ℕ) (k : Keyword) (t : Text) (r : Statement × Text) → behind_keyword standard in_class line k t ≡ Ok r → Behind (keyword_name k) standard in_class t r
 unfolding behind_keyword keyword_name
-behind_back in_class line keywords.Board t r e =
+behind_back standard in_class line keywords.Board t r e =
     e gives λ board b e.
-    subst (Behind (codes "BOARD") in_class t) (ok_is (Board board.0 board.1, board.2) r e) (record { whole = λ s x. x then board_back t board b; may = tt })
-behind_back true line keywords.Class t r e = absurd (cc)
-behind_back false line keywords.Class t r e = class_back t r e
-behind_back in_class line keywords.Task t r e = task_back in_class t r e
-behind_back in_class line keywords.Semaphore t r e = semaphore_back in_class t r e
-behind_back in_class line keywords.Flag t r e = flag_back in_class t r e
-behind_back in_class line keywords.Queue t r e = queue_back in_class t r e
-behind_back in_class line keywords.SpinLock t r e = spin_lock_back in_class t r e
-behind_back in_class line keywords.Handler t r e = handler_back in_class t r e
+    subst (Behind (codes "BOARD") standard in_class t) (ok_is (Board board.0 board.1, board.2) r e) (record { whole = λ s x. x then board_back t board b; may = tt })
+behind_back standard true line keywords.Class t r e = absurd (cc)
+behind_back standard false line keywords.Class t r e = class_back standard t r e
+behind_back standard in_class line keywords.Task t r e = task_back standard in_class t r e
+behind_back standard in_class line keywords.Semaphore t r e = semaphore_back standard in_class t r e
+behind_back standard in_class line keywords.Flag t r e = flag_back standard in_class t r e
+behind_back standard in_class line keywords.Queue t r e = queue_back standard in_class t r e
+behind_back standard in_class line keywords.SpinLock t r e = spin_lock_back standard in_class t r e
+behind_back true in_class line keywords.Mutex t r e = mutex_back in_class t r e
+behind_back false in_class line keywords.Mutex t r e = absurd (cc)
+behind_back standard in_class line keywords.Handler t r e = handler_back standard in_class t r e
 
 -- what a table has for a name stands beside this name
 named_back : {A : Type 0} (rows : List (List ℕ × A)) (name : List ℕ) (x : A) (name_of : A → List ℕ) → AllByRecursion (λ row. row.0 ≡ name_of row.1) rows → named_in rows name ≡ Some x → name ≡ name_of x
@@ -381,30 +398,30 @@ named_back (row ∷ rows) name x name_of are e =
 
 keyword_is : (run : List ℕ) (k : Keyword) → keyword_of run ≡ Some k → run ≡ keyword_name k
 unfolding keyword_of keyword_name
-keyword_is run k e = named_back keyword_names run k keyword_name (refl, (refl, (refl, (refl, (refl, (refl, (refl, (refl, tt)))))))) e
+keyword_is run k e = named_back keyword_names run k keyword_name (refl, (refl, (refl, (refl, (refl, (refl, (refl, (refl, (refl, tt))))))))) e
 
 -- a statement at the front of a text, where it may stand
-pub record IsStatement (in_class : Bool) (t : Text) (r : Statement × Text) : Type 0 where
+pub record IsStatement (standard in_class : Bool) (t : Text) (r : Statement × Text) : Type 0 where
   pub front : Front (form r.0) t r.1
-  pub may : MayStand in_class r.0
+  pub may : MayStand standard in_class r.0
 
 pub exactly : (run : List ℕ) (t : Text) → (first t).token ≡ Run run → Front (Exactly run ∷ []) t (others t)
 exactly run t e = one_front (Exactly run) (Run run) t (others t) (λ e. cc) refl e refl
 
-by_token : (in_class : Bool) (w : Token) (t : Text) (r : Statement × Text) → (first t).token ≡ w → statement_by in_class w (first t).line (others t) ≡ Ok r → IsStatement in_class t r
-by_token in_class (Run run) t r is e =
-    let k = bind_ok (or_fault (Syntax (first t).line) (keyword_of run)) (λ keyword. behind_keyword in_class (first t).line keyword (others t)) r e in
+by_token : (standard in_class : Bool) (w : Token) (t : Text) (r : Statement × Text) → (first t).token ≡ w → statement_by standard in_class w (first t).line (others t) ≡ Ok r → IsStatement standard in_class t r
+by_token standard in_class (Run run) t r is e =
+    let k = bind_ok (or_fault (Syntax (first t).line) (keyword_of run)) (λ keyword. behind_keyword standard in_class (first t).line keyword (others t)) r e in
     let named : run ≡ keyword_name k.0 = keyword_is run k.0 (some_is (keyword_of run) (Syntax (first t).line) k.0 k.1) in
-    let b = behind_back in_class (first t).line k.0 (others t) r k.2 in
+    let b = behind_back standard in_class (first t).line k.0 (others t) r k.2 in
     record { front = b.whole t (exactly (keyword_name k.0) t (is ∙ ap (λ (x : List ℕ). Run x) named)); may = b.may }
-by_token in_class (Mark b) t r is e =
+by_token standard in_class (Mark b) t r is e =
     let made : Statement × Text = (ClassEnd, others t) in
     let p = passed (in_class && nat_eq b 125) (Syntax (first t).line) made r e in
     let parts = and_parts in_class (nat_eq b 125) p.0 in
-    subst (IsStatement in_class t) p.1 (record { front = one_front (Sign 125) (Mark b) t (others t) (λ e. cc) (ap (λ (n : ℕ). Mark n ∷ []) (eqb-true b 125 parts.1)) is refl; may = parts.0 })
-by_token in_class Unclosed t r is e = absurd (cc)
-by_token in_class End t r is e = absurd (cc)
+    subst (IsStatement standard in_class t) p.1 (record { front = one_front (Sign 125) (Mark b) t (others t) (λ e. cc) (ap (λ (n : ℕ). Mark n ∷ []) (eqb-true b 125 parts.1)) is refl; may = parts.0 })
+by_token standard in_class Unclosed t r is e = absurd (cc)
+by_token standard in_class End t r is e = absurd (cc)
 
-pub statement_back : (in_class : Bool) (t : Text) (r : Statement × Text) → statement_at in_class t ≡ Ok r → IsStatement in_class t r
+pub statement_back : (standard in_class : Bool) (t : Text) (r : Statement × Text) → statement_at standard in_class t ≡ Ok r → IsStatement standard in_class t r
 unfolding statement_at
-statement_back in_class t r e = by_token in_class (first t).token t r refl e
+statement_back standard in_class t r e = by_token standard in_class (first t).token t r refl e

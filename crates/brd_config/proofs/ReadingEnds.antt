@@ -18,22 +18,24 @@ use Rattle.brd_config.specs.declared.objects.SemaphoreConfig.{SemaphoreConfig}
 use Rattle.brd_config.specs.declared.objects.FlagConfig.{FlagConfig}
 use Rattle.brd_config.specs.declared.objects.QueueConfig.{QueueConfig}
 use Rattle.brd_config.specs.declared.objects.SpinLockConfig.{SpinLockConfig}
+use Rattle.brd_config.specs.declared.objects.MutexConfig.{MutexConfig}
 use Rattle.brd_config.specs.declared.objects.HandlerConfig.{HandlerConfig}
 use Rattle.brd_config.specs.declared.statement.Keyword.{Keyword}
 use Rattle.brd_config.specs.declared.statement.Keyword.TheVariants as keywords
 use Rattle.brd_config.specs.declared.statement.Statement.{Statement}
-use Rattle.brd_config.specs.declared.statement.Statement.TheVariants.{Board, Class, ClassEnd, Task, Semaphore, Flag, Queue, SpinLock, Handler}
+use Rattle.brd_config.specs.declared.statement.Statement.TheVariants.{Board, Class, ClassEnd, Task, Semaphore, Flag, Queue, SpinLock, Mutex, Handler}
 use Rattle.brd_config.specs.declared.statement.TaskStatement.{TaskStatement}
 use Rattle.brd_config.specs.declared.statement.SemaphoreStatement.{SemaphoreStatement}
 use Rattle.brd_config.specs.declared.statement.FlagStatement.{FlagStatement}
 use Rattle.brd_config.specs.declared.statement.QueueStatement.{QueueStatement}
 use Rattle.brd_config.specs.declared.statement.SpinLockStatement.{SpinLockStatement}
+use Rattle.brd_config.specs.declared.statement.MutexStatement.{MutexStatement}
 use Rattle.brd_config.specs.declared.statement.HandlerStatement.{HandlerStatement}
-use Rattle.brd_config.specs.Statements.{keyword_of, board_at, class_at, task_tail_at, task_at, semaphore_at, flag_at, queue_at, spin_lock_at, handler_at, behind_keyword, statement_by, statement_at}
-use Rattle.brd_config.specs.Reading.{attribute_of, class_of, operand_of, stack_of, is_area, run_of, number_at, expect_mark, mark_at, attribute_at, expect_joint, joint_at, attribute_step, attributes_at, operand_at, stack_at, area_at, class_number_at, listed_number_at, listed_operand_at, head_at, tail_at}
-use Rattle.brd_config.specs.Meaning.{State, within, only_bits, refused, task_numbers, task_of, semaphore_of, flag_of, queue_of, spin_lock_of, handler_of, added, processor_of, is_end, is_board, one_more, statement_step, statements_from, board_of, first_board, first_statement, opened, config_from, config_of}
+use Rattle.brd_config.specs.Statements.{keyword_of, board_at, class_at, task_tail_at, task_at, semaphore_at, flag_at, queue_at, spin_lock_at, mutex_at, handler_at, behind_keyword, statement_by, statement_at}
+use Rattle.brd_config.specs.Reading.{attribute_of, class_of, protocol_of, operand_of, stack_of, is_area, run_of, number_at, expect_mark, mark_at, attribute_at, expect_joint, joint_at, attribute_step, attributes_at, operand_at, stack_at, area_at, class_number_at, protocol_at, listed_number_at, listed_operand_at, head_at, tail_at}
+use Rattle.brd_config.specs.Meaning.{State, within, only_bits, refused, task_numbers, task_of, semaphore_of, flag_of, queue_of, spin_lock_of, mutex_of, handler_of, added, processor_of, is_end, is_board, one_more, statement_step, statements_from, board_of, first_board, first_statement, opened, config_from, config_of}
 use Rattle.brd_config.specs.Grammar.{Piece, Joined, IsSpelled, AreSpelled, form}
-use Rattle.brd_config.specs.Grammar.Piece.{Exactly, Sign, Numeral, Attributes, Value, StackValue, Area, ClassName}
+use Rattle.brd_config.specs.Grammar.Piece.{Exactly, Sign, Numeral, Attributes, Value, StackValue, Area, ClassName, Protocol}
 use Rattle.brd_config.specs.Grammar.Joined.{last, bar}
 use Rattle.brd_config.proofs.FormsBack.{read_by, attribute_back, statement_back}
 
@@ -113,6 +115,10 @@ stack_ends t = read_ends stack_of t
 class_name_ends : (t : Text) → Ends (class_number_at t)
 unfolding class_number_at
 class_name_ends t = read_ends class_of t
+
+protocol_ends : (t : Text) → Ends (protocol_at t)
+unfolding protocol_at
+protocol_ends t = read_ends protocol_of t
 
 attribute_ends : (t : Text) → Ends (attribute_at t)
 unfolding attribute_at
@@ -213,27 +219,32 @@ spin_lock_ends : (t : Text) → Ends (spin_lock_at t)
 unfolding spin_lock_at
 spin_lock_ends t = head_ends 125 t then λ head. mark_ends 41 head.2 then λ closed. mark_ends 59 closed then λ ended. answer_ends _
 
+mutex_ends : (t : Text) → Ends (mutex_at t)
+unfolding mutex_at
+mutex_ends t = mark_ends 40 t then λ opened. listed_number_ends opened then λ id. mark_ends 123 id.1 then λ inner. protocol_ends inner then λ protocol. mark_ends 44 protocol.1 then λ listed. number_ends listed then λ ceiling. tail_ends ceiling.1 then λ ended. answer_ends _
+
 handler_ends : (t : Text) → Ends (handler_at t)
 unfolding handler_at
 handler_ends t = head_ends 44 t then λ head. operand_ends head.2 then λ address. tail_ends address.1 then λ ended. answer_ends _
 
-behind_ends : (in_class : Bool) (line : ℕ) (k : Keyword) (t : Text) → Ends (behind_keyword in_class line k t)
+behind_ends : (standard in_class : Bool) (line : ℕ) (k : Keyword) (t : Text) → Ends (behind_keyword standard in_class line k t)
 unfolding behind_keyword
-behind_ends in_class line keywords.Board t = board_ends t then λ board. answer_ends _
-behind_ends in_class line keywords.Class t = either_ends in_class (syntax_ends line) (class_ends t)
-behind_ends in_class line keywords.Task t = task_ends t
-behind_ends in_class line keywords.Semaphore t = semaphore_ends t
-behind_ends in_class line keywords.Flag t = flag_ends t
-behind_ends in_class line keywords.Queue t = queue_ends t
-behind_ends in_class line keywords.SpinLock t = spin_lock_ends t
-behind_ends in_class line keywords.Handler t = handler_ends t
+behind_ends standard in_class line keywords.Board t = board_ends t then λ board. answer_ends _
+behind_ends standard in_class line keywords.Class t = either_ends in_class (syntax_ends line) (class_ends t)
+behind_ends standard in_class line keywords.Task t = task_ends t
+behind_ends standard in_class line keywords.Semaphore t = semaphore_ends t
+behind_ends standard in_class line keywords.Flag t = flag_ends t
+behind_ends standard in_class line keywords.Queue t = queue_ends t
+behind_ends standard in_class line keywords.SpinLock t = spin_lock_ends t
+behind_ends standard in_class line keywords.Mutex t = either_ends standard (mutex_ends t) (syntax_ends line)
+behind_ends standard in_class line keywords.Handler t = handler_ends t
 
-statement_ends : (in_class : Bool) (t : Text) → Ends (statement_at in_class t)
+statement_ends : (standard in_class : Bool) (t : Text) → Ends (statement_at standard in_class t)
 unfolding statement_at
-statement_ends in_class t = by_token (first t).token
+statement_ends standard in_class t = by_token (first t).token
   where
-    by_token : (w : Token) → Ends (statement_by in_class w (first t).line (others t))
-    by_token (Run run) = value_ends (keyword_of run) (first t).line then λ keyword. behind_ends in_class (first t).line keyword (others t)
+    by_token : (w : Token) → Ends (statement_by standard in_class w (first t).line (others t))
+    by_token (Run run) = value_ends (keyword_of run) (first t).line then λ keyword. behind_ends standard in_class (first t).line keyword (others t)
     by_token (Mark b) = either_ends (in_class && nat_eq b 125) (answer_ends (ClassEnd, others t)) (syntax_ends (first t).line)
     by_token Unclosed = syntax_ends (first t).line
     by_token End = syntax_ends (first t).line
@@ -290,6 +301,10 @@ spin_lock_of_ends : (line : ℕ) (spin_locks : List SpinLockConfig) (x : SpinLoc
 unfolding spin_lock_of
 spin_lock_of_ends line spin_locks x = id_ends line 1 255 x.id then λ id. new_ends line _ then λ new. bits_end line 0 x.attributes then λ attributes. answer_ends _
 
+mutex_of_ends : (line : ℕ) (mutexes : List MutexConfig) (x : MutexStatement) → Ends (mutex_of line mutexes x)
+unfolding mutex_of
+mutex_of_ends line mutexes x = id_ends line 1 255 x.id then λ id. new_ends line _ then λ new. within_ends 0 3 (BadAttribute line) x.protocol (λ e. cc) then λ number. within_ends _ 16 (BadPriority line) x.ceiling (λ e. cc) then λ ceiling. answer_ends _
+
 handler_of_ends : (line : ℕ) (handlers : List HandlerConfig) (processor : ℕ) (x : HandlerStatement) → Ends (handler_of line handlers processor x)
 unfolding handler_of
 handler_of_ends line handlers processor x = id_ends line 0 31 x.line then λ number. new_ends line _ then λ new. bits_end line 1 x.attributes then λ attributes. answer_ends _
@@ -304,11 +319,12 @@ added_ends line s (Semaphore x) = semaphore_of_ends line s.config.semaphores x t
 added_ends line s (Flag x) = flag_of_ends line s.config.flags x then λ flag. answer_ends _
 added_ends line s (Queue x) = queue_of_ends line s.config.queues x then λ queue. answer_ends _
 added_ends line s (SpinLock x) = spin_lock_of_ends line s.config.spin_locks x then λ spin_lock. answer_ends _
+added_ends line s (Mutex x) = mutex_of_ends line s.config.mutexes x then λ mutex. answer_ends _
 added_ends line s (Handler x) = handler_of_ends line s.config.handlers (processor_of s.class) x then λ handler. answer_ends _
 
 one_more_ends : (s : State × Text) → Ends (one_more s)
 unfolding one_more
-one_more_ends s = statement_ends (is_some s.0.class) s.1 then λ read. added_ends (first s.1).line s.0 read.0 then λ next. answer_ends _
+one_more_ends s = statement_ends s.0.config.standard (is_some s.0.class) s.1 then λ read. added_ends (first s.1).line s.0 read.0 then λ next. answer_ends _
 
 step_ends : (s : State × Text) → Ends (statement_step s)
 unfolding statement_step
@@ -329,6 +345,7 @@ some_token (Value v) tokens s = omega (arith, ap length s.1)
 some_token (StackValue v) tokens s = omega (arith, ap length s.1)
 some_token Area tokens s = omega (arith, ap length s.1)
 some_token (ClassName n) tokens s = omega (arith, ap length s.1)
+some_token (Protocol n) tokens s = omega (arith, ap length s.1)
 
 pieces_long : (ps : List Piece) (tokens : List Token) → AreSpelled ps tokens → length ps ≤ length tokens
 pieces_long [] tokens s = omega arith
@@ -343,20 +360,21 @@ some_piece (Semaphore x) = omega arith
 some_piece (Flag x) = omega arith
 some_piece (Queue x) = omega arith
 some_piece (SpinLock x) = omega arith
+some_piece (Mutex x) = omega arith
 some_piece (Handler x) = omega arith
 
-statement_less : (in_class : Bool) (t : Text) (r : Statement × Text) → statement_at in_class t ≡ Ok r → length r.1.tokens < length t.tokens
-statement_less in_class t r e =
-    let front = (statement_back in_class t r e).front in
+statement_less : (standard in_class : Bool) (t : Text) (r : Statement × Text) → statement_at standard in_class t ≡ Ok r → length r.1.tokens < length t.tokens
+statement_less standard in_class t r e =
+    let front = (statement_back standard in_class t r e).front in
     omega (arith, ap length front.tokens, length-append front.front (bare_tokens r.1), some_piece r.0, pieces_long (form r.0) front.front front.spelled, length-map t.tokens (λ p. p.token), length-map r.1.tokens (λ p. p.token))
 
 one_more_less : (s next : State × Text) → one_more s ≡ Ok (More next) → length next.1.tokens < length s.1.tokens
 unfolding one_more
 one_more_less s next e =
-    let a = bind_ok (statement_at (is_some s.0.class) s.1) (λ read. added (first s.1).line s.0 read.0 >>= λ next. Ok (More (next, read.1))) (More next) e in
+    let a = bind_ok (statement_at s.0.config.standard (is_some s.0.class) s.1) (λ read. added (first s.1).line s.0 read.0 >>= λ next. Ok (More (next, read.1))) (More next) e in
     let b = bind_ok (added (first s.1).line s.0 a.0.0) (λ next. Ok (More (next, a.0.1))) (More next) a.2 in
     let same : a.0.1 ≡ next.1 = ap (λ (q : State × Text). q.1) (more_is true (b.0, a.0.1) next s.0.config (ok_is (More (b.0, a.0.1)) (More next) b.2)) in
-    omega (arith, statement_less (is_some s.0.class) s.1 a.0 a.1, ap (λ (t : Text). length t.tokens) same)
+    omega (arith, statement_less s.0.config.standard (is_some s.0.class) s.1 a.0 a.1, ap (λ (t : Text). length t.tokens) same)
 
 step_less : (s next : State × Text) → statement_step s ≡ Ok (More next) → length next.1.tokens < length s.1.tokens
 unfolding statement_step

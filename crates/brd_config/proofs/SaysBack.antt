@@ -18,19 +18,20 @@ use Rattle.brd_config.specs.declared.objects.SemaphoreConfig.{SemaphoreConfig}
 use Rattle.brd_config.specs.declared.objects.FlagConfig.{FlagConfig}
 use Rattle.brd_config.specs.declared.objects.QueueConfig.{QueueConfig}
 use Rattle.brd_config.specs.declared.objects.SpinLockConfig.{SpinLockConfig}
+use Rattle.brd_config.specs.declared.objects.MutexConfig.{MutexConfig}
 use Rattle.brd_config.specs.declared.objects.HandlerConfig.{HandlerConfig}
 use Rattle.brd_config.specs.declared.statement.Statement.{Statement}
-use Rattle.brd_config.specs.declared.statement.Statement.TheVariants.{Board, Class, ClassEnd, Task, Semaphore, Flag, Queue, SpinLock, Handler}
+use Rattle.brd_config.specs.declared.statement.Statement.TheVariants.{Board, Class, ClassEnd, Task, Semaphore, Flag, Queue, SpinLock, Mutex, Handler}
 use Rattle.brd_config.specs.Statements.{statement_at, board_at}
 use Rattle.brd_config.specs.Configuration.{Configuration, IsWithin, IsConfiguration}
-use Rattle.brd_config.specs.Meaning.{State, within, refused, is_ram_size, task_of, semaphore_of, flag_of, queue_of, spin_lock_of, handler_of, added, processor_of, is_end, is_word, is_mark, is_board, one_more, statement_step, statements_from, board_of, first_board, first_statement, behind_profile, has_profile, opened, config_from, plain_config_of, config_of}
-use Rattle.brd_config.specs.Grammar.{Piece, Joined, IsSpelled, AreSpelled, OneRun, form, profile_form, IsOutside, IsInside, tasks_of, semaphores_of, flags_of, queues_of, spin_locks_of, handlers_of, task_said, semaphore_said, flag_said, queue_said, spin_lock_said, handler_said, said, AreNested, Says}
-use Rattle.brd_config.specs.Grammar.Piece.{Exactly, Sign, Numeral, Attributes, Value, StackValue, Area, ClassName}
+use Rattle.brd_config.specs.Meaning.{State, within, refused, is_ram_size, task_of, semaphore_of, flag_of, queue_of, spin_lock_of, mutex_of, handler_of, added, processor_of, is_end, is_word, is_mark, is_board, one_more, statement_step, statements_from, board_of, first_board, first_statement, behind_profile, has_profile, opened, config_from, plain_config_of, config_of}
+use Rattle.brd_config.specs.Grammar.{Piece, Joined, IsSpelled, AreSpelled, OneRun, form, profile_form, IsOutside, IsInside, tasks_of, semaphores_of, flags_of, queues_of, spin_locks_of, mutexes_of, handlers_of, task_said, semaphore_said, flag_said, queue_said, spin_lock_said, mutex_said, handler_said, said, AreNested, Says}
+use Rattle.brd_config.specs.Grammar.Piece.{Exactly, Sign, Numeral, Attributes, Value, StackValue, Area, ClassName, Protocol}
 use Rattle.brd_config.specs.Grammar.Joined.{last, bar}
 use Rattle.brd_config.proofs.Forms.{MayStand}
 use Rattle.brd_config.proofs.FormsBack.{Front, ◌then◌, both_spelled, one_front, exactly, board_back, statement_back}
 use Rattle.brd_config.proofs.SpelledBack.{AreClosed, AreTokens, spelled_back, are_tokens}
-use Rattle.brd_config.proofs.Validity.{IsState, one_ok, two_ok, within_ok, task_ok, semaphore_ok, flag_ok, queue_ok, spin_lock_ok, handler_ok, added_ok, first_ok, config_is_valid}
+use Rattle.brd_config.proofs.Validity.{IsState, one_ok, two_ok, within_ok, task_ok, semaphore_ok, flag_ok, queue_ok, spin_lock_ok, mutex_ok, handler_ok, added_ok, first_ok, config_is_valid}
 use Rattle.brd_config.proofs.Accepted.{Leads, started, all_said}
 
 -- ---- tokens of pieces
@@ -55,6 +56,7 @@ piece_closed (Value v) tokens s = run_closed _ tokens s
 piece_closed (StackValue v) tokens s = run_closed _ tokens s
 piece_closed Area tokens s = run_closed _ tokens s
 piece_closed (ClassName n) tokens s = run_closed _ tokens s
+piece_closed (Protocol n) tokens s = run_closed _ tokens s
 
 closed : (ps : List Piece) (tokens : List Token) → AreSpelled ps tokens → AreClosed tokens
 closed [] tokens s = subst AreClosed (sym s) tt
@@ -89,9 +91,9 @@ inside (Some n) h = tt
 
 -- What holds of the statements after a statement holds with it in front.
 abbrev GoesBack : Configuration → State → Statement → List Statement → State → Type 0
-GoesBack whole s x ss next = Leads whole next.config next.class ss → AreNested next.config.processors next.class ss → Leads whole s.config s.class (x ∷ ss) × AreNested s.config.processors s.class (x ∷ ss)
+GoesBack whole s x ss next = Leads whole next.config next.class ss → AreNested next.config.standard next.config.processors next.class ss → Leads whole s.config s.class (x ∷ ss) × AreNested s.config.standard s.config.processors s.class (x ∷ ss)
 
-goes_back : (line : ℕ) (whole : Configuration) (s next : State) (x : Statement) (ss : List Statement) → IsState s → MayStand (is_some s.class) x → added line s x ≡ Ok next → GoesBack whole s x ss next
+goes_back : (line : ℕ) (whole : Configuration) (s next : State) (x : Statement) (ss : List Statement) → IsState s → MayStand s.config.standard (is_some s.class) x → added line s x ≡ Ok next → GoesBack whole s x ss next
 unfolding added
 goes_back line whole s next (Board processors ram) ss is may e = absurd (let p = bind_ok (within 1 8 (BadProcessor line) processors) (λ count. Err (Duplicate line)) next e in never p.2)
   where
@@ -102,46 +104,52 @@ goes_back line whole s next (Class n) ss is may e =
     let w = within_ok 1 s.config.processors (BadProcessor line) n p.0 p.1 in
     let same : record s { class = Some n } ≡ next = ap (λ (k : ℕ). record s { class = Some k }) (sym w.0) ∙ p.2 in
     subst (GoesBack whole s (Class n) ss) same
-    (λ l nested. (record { standard = l.standard; processors = l.processors; ram = l.ram; tasks = l.tasks; semaphores = l.semaphores; flags = l.flags; queues = l.queues; spin_locks = l.spin_locks; handlers = l.handlers }, (outside s.class may, subst (IsWithin 1 s.config.processors) w.0 w.1, nested)))
+    (λ l nested. (record { standard = l.standard; processors = l.processors; ram = l.ram; tasks = l.tasks; semaphores = l.semaphores; flags = l.flags; queues = l.queues; spin_locks = l.spin_locks; mutexes = l.mutexes; handlers = l.handlers }, (outside s.class may, subst (IsWithin 1 s.config.processors) w.0 w.1, nested)))
 goes_back line whole s next ClassEnd ss is may e =
     subst (GoesBack whole s ClassEnd ss) (ok_is (record s { class = None }) next e)
-    (λ l nested. (record { standard = l.standard; processors = l.processors; ram = l.ram; tasks = l.tasks; semaphores = l.semaphores; flags = l.flags; queues = l.queues; spin_locks = l.spin_locks; handlers = l.handlers }, (inside s.class may, nested)))
+    (λ l nested. (record { standard = l.standard; processors = l.processors; ram = l.ram; tasks = l.tasks; semaphores = l.semaphores; flags = l.flags; queues = l.queues; spin_locks = l.spin_locks; mutexes = l.mutexes; handlers = l.handlers }, (inside s.class may, nested)))
 goes_back line whole s next (Task x) ss is may e =
     let add : TaskConfig → State = λ made. record s { config = record s.config { tasks = s.config.tasks ++ made ∷ [] } } in
     let p = one_ok (task_of line s.config.tasks (processor_of s.class) x) add next e in
     let ok = task_ok line s.config.tasks s.config.processors (processor_of s.class) x p.0 is.class p.1 in
     subst (GoesBack whole s (Task x) ss) (ap add (sym ok.2) ∙ p.2)
-    (λ l nested. (record { standard = l.standard; processors = l.processors; ram = l.ram; tasks = l.tasks ∙ append_assoc s.config.tasks (task_said (processor_of s.class) x ∷ []) (tasks_of s.class ss); semaphores = l.semaphores; flags = l.flags; queues = l.queues; spin_locks = l.spin_locks; handlers = l.handlers }, nested))
+    (λ l nested. (record { standard = l.standard; processors = l.processors; ram = l.ram; tasks = l.tasks ∙ append_assoc s.config.tasks (task_said (processor_of s.class) x ∷ []) (tasks_of s.class ss); semaphores = l.semaphores; flags = l.flags; queues = l.queues; spin_locks = l.spin_locks; mutexes = l.mutexes; handlers = l.handlers }, nested))
 goes_back line whole s next (Semaphore x) ss is may e =
     let add : SemaphoreConfig → State = λ made. record s { config = record s.config { semaphores = s.config.semaphores ++ made ∷ [] } } in
     let p = one_ok (semaphore_of line s.config.semaphores x) add next e in
     let ok = semaphore_ok line s.config.semaphores x p.0 p.1 in
     subst (GoesBack whole s (Semaphore x) ss) (ap add (sym ok.2) ∙ p.2)
-    (λ l nested. (record { standard = l.standard; processors = l.processors; ram = l.ram; tasks = l.tasks; semaphores = l.semaphores ∙ append_assoc s.config.semaphores (semaphore_said x ∷ []) (semaphores_of ss); flags = l.flags; queues = l.queues; spin_locks = l.spin_locks; handlers = l.handlers }, nested))
+    (λ l nested. (record { standard = l.standard; processors = l.processors; ram = l.ram; tasks = l.tasks; semaphores = l.semaphores ∙ append_assoc s.config.semaphores (semaphore_said x ∷ []) (semaphores_of ss); flags = l.flags; queues = l.queues; spin_locks = l.spin_locks; mutexes = l.mutexes; handlers = l.handlers }, nested))
 goes_back line whole s next (Flag x) ss is may e =
     let add : FlagConfig → State = λ made. record s { config = record s.config { flags = s.config.flags ++ made ∷ [] } } in
     let p = one_ok (flag_of line s.config.flags x) add next e in
     let ok = flag_ok line s.config.flags x p.0 p.1 in
     subst (GoesBack whole s (Flag x) ss) (ap add (sym ok.2) ∙ p.2)
-    (λ l nested. (record { standard = l.standard; processors = l.processors; ram = l.ram; tasks = l.tasks; semaphores = l.semaphores; flags = l.flags ∙ append_assoc s.config.flags (flag_said x ∷ []) (flags_of ss); queues = l.queues; spin_locks = l.spin_locks; handlers = l.handlers }, nested))
+    (λ l nested. (record { standard = l.standard; processors = l.processors; ram = l.ram; tasks = l.tasks; semaphores = l.semaphores; flags = l.flags ∙ append_assoc s.config.flags (flag_said x ∷ []) (flags_of ss); queues = l.queues; spin_locks = l.spin_locks; mutexes = l.mutexes; handlers = l.handlers }, nested))
 goes_back line whole s next (Queue x) ss is may e =
     let add : QueueConfig → State = λ made. record s { config = record s.config { queues = s.config.queues ++ made ∷ [] } } in
     let p = one_ok (queue_of line s.config.queues x) add next e in
     let ok = queue_ok line s.config.queues x p.0 p.1 in
     subst (GoesBack whole s (Queue x) ss) (ap add (sym ok.2) ∙ p.2)
-    (λ l nested. (record { standard = l.standard; processors = l.processors; ram = l.ram; tasks = l.tasks; semaphores = l.semaphores; flags = l.flags; queues = l.queues ∙ append_assoc s.config.queues (queue_said x ∷ []) (queues_of ss); spin_locks = l.spin_locks; handlers = l.handlers }, nested))
+    (λ l nested. (record { standard = l.standard; processors = l.processors; ram = l.ram; tasks = l.tasks; semaphores = l.semaphores; flags = l.flags; queues = l.queues ∙ append_assoc s.config.queues (queue_said x ∷ []) (queues_of ss); spin_locks = l.spin_locks; mutexes = l.mutexes; handlers = l.handlers }, nested))
 goes_back line whole s next (SpinLock x) ss is may e =
     let add : SpinLockConfig → State = λ made. record s { config = record s.config { spin_locks = s.config.spin_locks ++ made ∷ [] } } in
     let p = one_ok (spin_lock_of line s.config.spin_locks x) add next e in
     let ok = spin_lock_ok line s.config.spin_locks x p.0 p.1 in
     subst (GoesBack whole s (SpinLock x) ss) (ap add (sym ok.2) ∙ p.2)
-    (λ l nested. (record { standard = l.standard; processors = l.processors; ram = l.ram; tasks = l.tasks; semaphores = l.semaphores; flags = l.flags; queues = l.queues; spin_locks = l.spin_locks ∙ append_assoc s.config.spin_locks (spin_lock_said x ∷ []) (spin_locks_of ss); handlers = l.handlers }, (ok.3, nested)))
+    (λ l nested. (record { standard = l.standard; processors = l.processors; ram = l.ram; tasks = l.tasks; semaphores = l.semaphores; flags = l.flags; queues = l.queues; spin_locks = l.spin_locks ∙ append_assoc s.config.spin_locks (spin_lock_said x ∷ []) (spin_locks_of ss); mutexes = l.mutexes; handlers = l.handlers }, (ok.3, nested)))
+goes_back line whole s next (Mutex x) ss is may e =
+    let add : MutexConfig → State = λ made. record s { config = record s.config { mutexes = s.config.mutexes ++ made ∷ [] } } in
+    let p = one_ok (mutex_of line s.config.mutexes x) add next e in
+    let ok = mutex_ok line s.config.mutexes x p.0 p.1 in
+    subst (GoesBack whole s (Mutex x) ss) (ap add (sym ok.2) ∙ p.2)
+    (λ l nested. (record { standard = l.standard; processors = l.processors; ram = l.ram; tasks = l.tasks; semaphores = l.semaphores; flags = l.flags; queues = l.queues; spin_locks = l.spin_locks; mutexes = l.mutexes ∙ append_assoc s.config.mutexes (mutex_said x ∷ []) (mutexes_of ss); handlers = l.handlers }, (may, ok.3, nested)))
 goes_back line whole s next (Handler x) ss is may e =
     let add : HandlerConfig → State = λ made. record s { config = record s.config { handlers = s.config.handlers ++ made ∷ [] } } in
     let p = one_ok (handler_of line s.config.handlers (processor_of s.class) x) add next e in
     let ok = handler_ok line s.config.handlers s.config.processors (processor_of s.class) x p.0 is.class p.1 in
     subst (GoesBack whole s (Handler x) ss) (ap add (sym ok.2) ∙ p.2)
-    (λ l nested. (record { standard = l.standard; processors = l.processors; ram = l.ram; tasks = l.tasks; semaphores = l.semaphores; flags = l.flags; queues = l.queues; spin_locks = l.spin_locks; handlers = l.handlers ∙ append_assoc s.config.handlers (handler_said (processor_of s.class) x ∷ []) (handlers_of s.class ss) }, (ok.3, nested)))
+    (λ l nested. (record { standard = l.standard; processors = l.processors; ram = l.ram; tasks = l.tasks; semaphores = l.semaphores; flags = l.flags; queues = l.queues; spin_locks = l.spin_locks; mutexes = l.mutexes; handlers = l.handlers ∙ append_assoc s.config.handlers (handler_said (processor_of s.class) x ∷ []) (handlers_of s.class ss) }, (ok.3, nested)))
 
 -- ---- the statements up to the end
 
@@ -150,7 +158,7 @@ record Told (whole : Configuration) (s : State) (t : Text) : Type 0 where
   statements : List Statement
   spelled : AreSpelled (flat_map form statements) (bare_tokens t)
   leads : Leads whole s.config s.class statements
-  nested : AreNested s.config.processors s.class statements
+  nested : AreNested s.config.standard s.config.processors s.class statements
 
 -- nothing follows
 nothing_told : (whole : Configuration) (s : State × Text) → AreTokens (bare_tokens s.1) → (is_none s.0.class && is_end (first s.1).token) ≡ true → s.0.config ≡ whole → Told whole s.0 s.1
@@ -160,7 +168,7 @@ nothing_told whole s are ends e =
     (record {
       statements = [];
       spelled = no_tokens s.1 are parts.1;
-      leads = record { standard = refl; processors = refl; ram = refl; tasks = sym (append-nil s.0.config.tasks); semaphores = sym (append-nil s.0.config.semaphores); flags = sym (append-nil s.0.config.flags); queues = sym (append-nil s.0.config.queues); spin_locks = sym (append-nil s.0.config.spin_locks); handlers = sym (append-nil s.0.config.handlers) };
+      leads = record { standard = refl; processors = refl; ram = refl; tasks = sym (append-nil s.0.config.tasks); semaphores = sym (append-nil s.0.config.semaphores); flags = sym (append-nil s.0.config.flags); queues = sym (append-nil s.0.config.queues); spin_locks = sym (append-nil s.0.config.spin_locks); mutexes = sym (append-nil s.0.config.mutexes); handlers = sym (append-nil s.0.config.handlers) };
       nested = unnested s.0.class parts.0;
     })
   where
@@ -176,9 +184,9 @@ more_told : (n : ℕ) (whole : Configuration) (s : State × Text) (flow : Flow (
     → one_more s ≡ Ok flow → followed (repeated NoMemory statement_step n) flow ≡ Ok whole → Told whole s.0 s.1
 unfolding one_more
 more_told n whole s flow is are again e h =
-    let a = bind_ok (statement_at (is_some s.0.class) s.1) (λ read. added (first s.1).line s.0 read.0 >>= λ next. Ok (More (next, read.1))) flow e in
+    let a = bind_ok (statement_at s.0.config.standard (is_some s.0.class) s.1) (λ read. added (first s.1).line s.0 read.0 >>= λ next. Ok (More (next, read.1))) flow e in
     let b = bind_ok (added (first s.1).line s.0 a.0.0) (λ next. Ok (More (next, a.0.1))) flow a.2 in
-    let x = statement_back (is_some s.0.class) s.1 a.0 a.1 in
+    let x = statement_back s.0.config.standard (is_some s.0.class) s.1 a.0 a.1 in
     let rest = behind_front x.front.front (bare_tokens a.0.1) (subst AreTokens x.front.tokens are) in
     let comes : Comes n whole (b.0, a.0.1) = ap (followed (repeated NoMemory statement_step n)) (ok_is (More (b.0, a.0.1)) flow b.2) ∙ h in
     let told = again (b.0, a.0.1) (added_ok (first s.1).line s.0 b.0 a.0.0 b.1 is) rest comes in
@@ -228,7 +236,7 @@ board_said : (standard : Bool) (line processors ram : ℕ) (c : Configuration) �
 unfolding board_of
 board_said standard line processors ram c e =
     let p = two_ok (within 1 8 (BadProcessor line) processors) (refused (not (is_ram_size ram)) (BadCount line))
-    (λ count sized. record { standard = standard; processors = count; ram = ram; tasks = []; semaphores = []; flags = []; queues = []; spin_locks = []; handlers = [] }) c e in
+    (λ count sized. record { standard = standard; processors = count; ram = ram; tasks = []; semaphores = []; flags = []; queues = []; spin_locks = []; mutexes = []; handlers = [] }) c e in
     sym p.4 ∙ ap (λ (count : ℕ). started standard count ram) (within_ok 1 8 (BadProcessor line) processors p.0 p.2).0
 
 begun_back : (standard : Bool) (line : ℕ) (t : Text) (s : State × Text) → (first t).token ≡ Run (codes "BOARD") → first_board standard line (others t) ≡ Ok s → IsBegun standard t s
@@ -298,6 +306,7 @@ whole_said whole standard processors ram ss l = sym (all_said whole (said standa
   flags = l.flags ∙ sym (append-nil (flags_of ss));
   queues = l.queues ∙ sym (append-nil (queues_of ss));
   spin_locks = l.spin_locks ∙ sym (append-nil (spin_locks_of ss));
+  mutexes = l.mutexes ∙ sym (append-nil (mutexes_of ss));
   handlers = l.handlers ∙ sym (append-nil (handlers_of None ss));
 }))
 
@@ -307,7 +316,7 @@ says bytes c x s valid opening begun told =
     let all = Board begun.processors begun.ram ∷ ss in
     let front = begun.front in
     let leads : Leads c (started x.0 begun.processors begun.ram) None ss = subst (λ (q : State). Leads c q.config q.class ss) begun.state told.leads in
-    let nested : AreNested begun.processors None ss = subst (λ (q : State). AreNested q.config.processors q.class ss) begun.state told.nested in
+    let nested : AreNested x.0 begun.processors None ss = subst (λ (q : State). AreNested q.config.standard q.config.processors q.class ss) begun.state told.nested in
     let same : c ≡ said x.0 begun.processors begun.ram ss = whole_said c x.0 begun.processors begun.ram ss leads in
     let from_board : AreSpelled (flat_map form all) (bare_tokens x.1) =
     subst (AreSpelled (form (Board begun.processors begun.ram) ++ flat_map form ss)) (sym front.tokens) (both_spelled (form (Board begun.processors begun.ram)) (flat_map form ss) front.front (bare_tokens s.1) front.spelled told.spelled) in

@@ -27,16 +27,18 @@ use Rattle.brd_config.specs.declared.objects.FlagConfig.{FlagConfig}
 use Rattle.brd_config.specs.declared.statement.FlagStatement.{FlagStatement}
 use Rattle.brd_config.specs.declared.objects.QueueConfig.{QueueConfig}
 use Rattle.brd_config.specs.declared.objects.SpinLockConfig.{SpinLockConfig}
+use Rattle.brd_config.specs.declared.objects.MutexConfig.{MutexConfig}
 use Rattle.brd_config.specs.declared.statement.QueueStatement.{QueueStatement}
 use Rattle.brd_config.specs.declared.statement.SpinLockStatement.{SpinLockStatement}
+use Rattle.brd_config.specs.declared.statement.MutexStatement.{MutexStatement}
 use Rattle.brd_config.specs.declared.objects.HandlerConfig.{HandlerConfig}
 use Rattle.brd_config.specs.declared.statement.HandlerStatement.{HandlerStatement}
 use Rattle.brd_config.specs.declared.statement.Statement.{Statement}
-use Rattle.brd_config.specs.declared.statement.Statement.TheVariants.{Board, Class, ClassEnd, Task, Semaphore, Flag, Queue, SpinLock, Handler}
+use Rattle.brd_config.specs.declared.statement.Statement.TheVariants.{Board, Class, ClassEnd, Task, Semaphore, Flag, Queue, SpinLock, Mutex, Handler}
 use Rattle.brd_config.specs.Statements.{statement_at, board_at}
-use Rattle.brd_config.specs.Configuration.{Configuration, IsWithin, IsTask, IsSemaphore, IsFlag, IsQueue, IsSpinLock, IsHandler, IsConfiguration}
-use Rattle.brd_config.specs.Meaning.{State, within, only_bits, refused, is_ram_size, task_numbers, task_of, semaphore_of, flag_of, queue_of, spin_lock_of, handler_of, added, processor_of, is_end, is_board, one_more, statement_step, statements_from, board_of, first_board, first_statement, opened, config_from, config_of}
-use Rattle.brd_config.specs.Grammar.{task_said, semaphore_said, flag_said, queue_said, spin_lock_said, handler_said}
+use Rattle.brd_config.specs.Configuration.{Configuration, IsWithin, IsTask, IsSemaphore, IsFlag, IsQueue, IsSpinLock, IsMutex, least_ceiling, IsHandler, IsConfiguration}
+use Rattle.brd_config.specs.Meaning.{State, within, only_bits, refused, is_ram_size, task_numbers, task_of, semaphore_of, flag_of, queue_of, spin_lock_of, mutex_of, meant_protocol, handler_of, added, processor_of, is_end, is_board, one_more, statement_step, statements_from, board_of, first_board, first_statement, opened, config_from, config_of}
+use Rattle.brd_config.specs.Grammar.{task_said, semaphore_said, flag_said, queue_said, spin_lock_said, mutex_said, handler_said}
 use Rattle.brd_config.proofs.RamSize.{has_ram_size}
 
 -- ---- lists
@@ -180,6 +182,18 @@ spin_lock_ok line spin_locks t x e =
     let attributes = only_bits_ok 0 (BadAttribute line) t.attributes p.2 p.5 in
     rw (← p.6) (record { id = id.1 }, rw id.0 new, rw id.0 refl, omega (arith, attributes.0, attributes.1))
 
+pub mutex_ok : (line : ℕ) (mutexes : List MutexConfig) (t : MutexStatement) (x : MutexConfig) → mutex_of line mutexes t ≡ Ok x
+    → IsMutex x × (list_any (λ o. nat_eq o.id x.id) mutexes ≡ false) × (x ≡ mutex_said t) × (t.protocol ≤ 3)
+unfolding mutex_of
+mutex_ok line mutexes t x e =
+    let p = four_ok (within 1 255 (BadId line) t.id) (refused (list_any (λ o. nat_eq o.id t.id) mutexes) (Duplicate line)) (within 0 3 (BadAttribute line) t.protocol)
+    (within (least_ceiling (meant_protocol t.protocol)) 16 (BadPriority line) t.ceiling) (λ id new number ceiling. record { id = id; protocol = meant_protocol number; ceiling = ceiling }) x e in
+    let id = within_ok 1 255 (BadId line) t.id p.0 p.4 in
+    let new = refused_ok (list_any (λ o. nat_eq o.id t.id) mutexes) (Duplicate line) p.1 p.5 in
+    let number = within_ok 0 3 (BadAttribute line) t.protocol p.2 p.6 in
+    let ceiling = within_ok (least_ceiling (meant_protocol t.protocol)) 16 (BadPriority line) t.ceiling p.3 p.7 in
+    rw (← p.8) (record { id = id.1; ceiling = rw number.0 ceiling.1 }, rw id.0 new, rw (id.0, number.0, ceiling.0) refl, omega (arith, number.0, number.1.most))
+
 pub handler_ok : (line : ℕ) (handlers : List HandlerConfig) (processors processor : ℕ) (t : HandlerStatement) (x : HandlerConfig) → IsWithin 1 processors processor → handler_of line handlers processor t ≡ Ok x
     → IsHandler processors x × (list_any (λ o. nat_eq o.line x.line) handlers ≡ false) × (x ≡ handler_said processor t) × (t.attributes ≤ 1)
 unfolding handler_of
@@ -213,42 +227,49 @@ added_ok line s t (Task x) e h =
     let p = one_ok (task_of line s.config.tasks (processor_of s.class) x) (λ made. record s { config = record s.config { tasks = s.config.tasks ++ made ∷ [] } }) t e in
     let ok = task_ok line s.config.tasks s.config.processors (processor_of s.class) x p.0 h.class p.1 in
     rw (← p.2) (record {
-      config = record { processors = h.config.processors; ram = h.config.ram; tasks = All-push (IsTask s.config.processors) s.config.tasks p.0 h.config.tasks ok.0; semaphores = h.config.semaphores; flags = h.config.flags; queues = h.config.queues; spin_locks = h.config.spin_locks; handlers = h.config.handlers; task_ids = keys_stay (λ o. o.id) s.config.tasks p.0 ok.1 h.config.task_ids; semaphore_ids = h.config.semaphore_ids; flag_ids = h.config.flag_ids; queue_ids = h.config.queue_ids; spin_lock_ids = h.config.spin_lock_ids; handler_lines = h.config.handler_lines };
+      config = record { processors = h.config.processors; ram = h.config.ram; tasks = All-push (IsTask s.config.processors) s.config.tasks p.0 h.config.tasks ok.0; semaphores = h.config.semaphores; flags = h.config.flags; queues = h.config.queues; spin_locks = h.config.spin_locks; mutexes = h.config.mutexes; handlers = h.config.handlers; task_ids = keys_stay (λ o. o.id) s.config.tasks p.0 ok.1 h.config.task_ids; semaphore_ids = h.config.semaphore_ids; flag_ids = h.config.flag_ids; queue_ids = h.config.queue_ids; spin_lock_ids = h.config.spin_lock_ids; mutex_ids = h.config.mutex_ids; handler_lines = h.config.handler_lines };
       class = h.class;
     })
 added_ok line s t (Semaphore x) e h =
     let p = one_ok (semaphore_of line s.config.semaphores x) (λ made. record s { config = record s.config { semaphores = s.config.semaphores ++ made ∷ [] } }) t e in
     let ok = semaphore_ok line s.config.semaphores x p.0 p.1 in
     rw (← p.2) (record {
-      config = record { processors = h.config.processors; ram = h.config.ram; tasks = h.config.tasks; semaphores = All-push IsSemaphore s.config.semaphores p.0 h.config.semaphores ok.0; flags = h.config.flags; queues = h.config.queues; spin_locks = h.config.spin_locks; handlers = h.config.handlers; task_ids = h.config.task_ids; semaphore_ids = keys_stay (λ o. o.id) s.config.semaphores p.0 ok.1 h.config.semaphore_ids; flag_ids = h.config.flag_ids; queue_ids = h.config.queue_ids; spin_lock_ids = h.config.spin_lock_ids; handler_lines = h.config.handler_lines };
+      config = record { processors = h.config.processors; ram = h.config.ram; tasks = h.config.tasks; semaphores = All-push IsSemaphore s.config.semaphores p.0 h.config.semaphores ok.0; flags = h.config.flags; queues = h.config.queues; spin_locks = h.config.spin_locks; mutexes = h.config.mutexes; handlers = h.config.handlers; task_ids = h.config.task_ids; semaphore_ids = keys_stay (λ o. o.id) s.config.semaphores p.0 ok.1 h.config.semaphore_ids; flag_ids = h.config.flag_ids; queue_ids = h.config.queue_ids; spin_lock_ids = h.config.spin_lock_ids; mutex_ids = h.config.mutex_ids; handler_lines = h.config.handler_lines };
       class = h.class;
     })
 added_ok line s t (Flag x) e h =
     let p = one_ok (flag_of line s.config.flags x) (λ made. record s { config = record s.config { flags = s.config.flags ++ made ∷ [] } }) t e in
     let ok = flag_ok line s.config.flags x p.0 p.1 in
     rw (← p.2) (record {
-      config = record { processors = h.config.processors; ram = h.config.ram; tasks = h.config.tasks; semaphores = h.config.semaphores; flags = All-push IsFlag s.config.flags p.0 h.config.flags ok.0; queues = h.config.queues; spin_locks = h.config.spin_locks; handlers = h.config.handlers; task_ids = h.config.task_ids; semaphore_ids = h.config.semaphore_ids; flag_ids = keys_stay (λ o. o.id) s.config.flags p.0 ok.1 h.config.flag_ids; queue_ids = h.config.queue_ids; spin_lock_ids = h.config.spin_lock_ids; handler_lines = h.config.handler_lines };
+      config = record { processors = h.config.processors; ram = h.config.ram; tasks = h.config.tasks; semaphores = h.config.semaphores; flags = All-push IsFlag s.config.flags p.0 h.config.flags ok.0; queues = h.config.queues; spin_locks = h.config.spin_locks; mutexes = h.config.mutexes; handlers = h.config.handlers; task_ids = h.config.task_ids; semaphore_ids = h.config.semaphore_ids; flag_ids = keys_stay (λ o. o.id) s.config.flags p.0 ok.1 h.config.flag_ids; queue_ids = h.config.queue_ids; spin_lock_ids = h.config.spin_lock_ids; mutex_ids = h.config.mutex_ids; handler_lines = h.config.handler_lines };
       class = h.class;
     })
 added_ok line s t (Queue x) e h =
     let p = one_ok (queue_of line s.config.queues x) (λ made. record s { config = record s.config { queues = s.config.queues ++ made ∷ [] } }) t e in
     let ok = queue_ok line s.config.queues x p.0 p.1 in
     rw (← p.2) (record {
-      config = record { processors = h.config.processors; ram = h.config.ram; tasks = h.config.tasks; semaphores = h.config.semaphores; flags = h.config.flags; queues = All-push IsQueue s.config.queues p.0 h.config.queues ok.0; spin_locks = h.config.spin_locks; handlers = h.config.handlers; task_ids = h.config.task_ids; semaphore_ids = h.config.semaphore_ids; flag_ids = h.config.flag_ids; queue_ids = keys_stay (λ o. o.id) s.config.queues p.0 ok.1 h.config.queue_ids; spin_lock_ids = h.config.spin_lock_ids; handler_lines = h.config.handler_lines };
+      config = record { processors = h.config.processors; ram = h.config.ram; tasks = h.config.tasks; semaphores = h.config.semaphores; flags = h.config.flags; queues = All-push IsQueue s.config.queues p.0 h.config.queues ok.0; spin_locks = h.config.spin_locks; mutexes = h.config.mutexes; handlers = h.config.handlers; task_ids = h.config.task_ids; semaphore_ids = h.config.semaphore_ids; flag_ids = h.config.flag_ids; queue_ids = keys_stay (λ o. o.id) s.config.queues p.0 ok.1 h.config.queue_ids; spin_lock_ids = h.config.spin_lock_ids; mutex_ids = h.config.mutex_ids; handler_lines = h.config.handler_lines };
       class = h.class;
     })
 added_ok line s t (SpinLock x) e h =
     let p = one_ok (spin_lock_of line s.config.spin_locks x) (λ made. record s { config = record s.config { spin_locks = s.config.spin_locks ++ made ∷ [] } }) t e in
     let ok = spin_lock_ok line s.config.spin_locks x p.0 p.1 in
     rw (← p.2) (record {
-      config = record { processors = h.config.processors; ram = h.config.ram; tasks = h.config.tasks; semaphores = h.config.semaphores; flags = h.config.flags; queues = h.config.queues; spin_locks = All-push IsSpinLock s.config.spin_locks p.0 h.config.spin_locks ok.0; handlers = h.config.handlers; task_ids = h.config.task_ids; semaphore_ids = h.config.semaphore_ids; flag_ids = h.config.flag_ids; queue_ids = h.config.queue_ids; spin_lock_ids = keys_stay (λ o. o.id) s.config.spin_locks p.0 ok.1 h.config.spin_lock_ids; handler_lines = h.config.handler_lines };
+      config = record { processors = h.config.processors; ram = h.config.ram; tasks = h.config.tasks; semaphores = h.config.semaphores; flags = h.config.flags; queues = h.config.queues; spin_locks = All-push IsSpinLock s.config.spin_locks p.0 h.config.spin_locks ok.0; mutexes = h.config.mutexes; handlers = h.config.handlers; task_ids = h.config.task_ids; semaphore_ids = h.config.semaphore_ids; flag_ids = h.config.flag_ids; queue_ids = h.config.queue_ids; spin_lock_ids = keys_stay (λ o. o.id) s.config.spin_locks p.0 ok.1 h.config.spin_lock_ids; mutex_ids = h.config.mutex_ids; handler_lines = h.config.handler_lines };
+      class = h.class;
+    })
+added_ok line s t (Mutex x) e h =
+    let p = one_ok (mutex_of line s.config.mutexes x) (λ made. record s { config = record s.config { mutexes = s.config.mutexes ++ made ∷ [] } }) t e in
+    let ok = mutex_ok line s.config.mutexes x p.0 p.1 in
+    rw (← p.2) (record {
+      config = record { processors = h.config.processors; ram = h.config.ram; tasks = h.config.tasks; semaphores = h.config.semaphores; flags = h.config.flags; queues = h.config.queues; spin_locks = h.config.spin_locks; mutexes = All-push IsMutex s.config.mutexes p.0 h.config.mutexes ok.0; handlers = h.config.handlers; task_ids = h.config.task_ids; semaphore_ids = h.config.semaphore_ids; flag_ids = h.config.flag_ids; queue_ids = h.config.queue_ids; spin_lock_ids = h.config.spin_lock_ids; mutex_ids = keys_stay (λ o. o.id) s.config.mutexes p.0 ok.1 h.config.mutex_ids; handler_lines = h.config.handler_lines };
       class = h.class;
     })
 added_ok line s t (Handler x) e h =
     let p = one_ok (handler_of line s.config.handlers (processor_of s.class) x) (λ made. record s { config = record s.config { handlers = s.config.handlers ++ made ∷ [] } }) t e in
     let ok = handler_ok line s.config.handlers s.config.processors (processor_of s.class) x p.0 h.class p.1 in
     rw (← p.2) (record {
-      config = record { processors = h.config.processors; ram = h.config.ram; tasks = h.config.tasks; semaphores = h.config.semaphores; flags = h.config.flags; queues = h.config.queues; spin_locks = h.config.spin_locks; handlers = All-push (IsHandler s.config.processors) s.config.handlers p.0 h.config.handlers ok.0; task_ids = h.config.task_ids; semaphore_ids = h.config.semaphore_ids; flag_ids = h.config.flag_ids; queue_ids = h.config.queue_ids; spin_lock_ids = h.config.spin_lock_ids; handler_lines = keys_stay (λ o. o.line) s.config.handlers p.0 ok.1 h.config.handler_lines };
+      config = record { processors = h.config.processors; ram = h.config.ram; tasks = h.config.tasks; semaphores = h.config.semaphores; flags = h.config.flags; queues = h.config.queues; spin_locks = h.config.spin_locks; mutexes = h.config.mutexes; handlers = All-push (IsHandler s.config.processors) s.config.handlers p.0 h.config.handlers ok.0; task_ids = h.config.task_ids; semaphore_ids = h.config.semaphore_ids; flag_ids = h.config.flag_ids; queue_ids = h.config.queue_ids; spin_lock_ids = h.config.spin_lock_ids; mutex_ids = h.config.mutex_ids; handler_lines = keys_stay (λ o. o.line) s.config.handlers p.0 ok.1 h.config.handler_lines };
       class = h.class;
     })
 
@@ -266,14 +287,14 @@ done_is c d e = cc
 one_more_ok : (s t : State × Text) → one_more s ≡ Ok (More t) → IsState s.0 → IsState t.0
 unfolding one_more
 one_more_ok s t e h =
-    let a = bind_ok (statement_at (is_some s.0.class) s.1) (λ read. added (first s.1).line s.0 read.0 >>= λ next. Ok (More (next, read.1))) (More t) e in
+    let a = bind_ok (statement_at s.0.config.standard (is_some s.0.class) s.1) (λ read. added (first s.1).line s.0 read.0 >>= λ next. Ok (More (next, read.1))) (More t) e in
     let b = bind_ok (added (first s.1).line s.0 a.0.0) (λ next. Ok (More (next, a.0.1))) (More t) a.2 in
     subst IsState (more_is b.0 a.0.1 t b.2) (added_ok (first s.1).line s.0 b.0 a.0.0 b.1 h)
 
 one_more_goes_on : (s : State × Text) (c : Configuration) → one_more s ≡ Ok (Done c) → ⊥
 unfolding one_more
 one_more_goes_on s c e =
-    let a = bind_ok (statement_at (is_some s.0.class) s.1) (λ read. added (first s.1).line s.0 read.0 >>= λ next. Ok (More (next, read.1))) (Done c) e in
+    let a = bind_ok (statement_at s.0.config.standard (is_some s.0.class) s.1) (λ read. added (first s.1).line s.0 read.0 >>= λ next. Ok (More (next, read.1))) (Done c) e in
     let b = bind_ok (added (first s.1).line s.0 a.0.0) (λ next. Ok (More (next, a.0.1))) (Done c) a.2 in
     let never : flowing (More (b.0, a.0.1)) ≡ Ok (Done c) = b.2 in
     cc
@@ -300,7 +321,7 @@ board_ok : (standard : Bool) (line processors ram : ℕ) (c : Configuration) →
 unfolding board_of
 board_ok standard line processors ram c e =
     let p = two_ok (within 1 8 (BadProcessor line) processors) (refused (not (is_ram_size ram)) (BadCount line))
-    (λ count sized. record { standard = standard; processors = count; ram = ram; tasks = []; semaphores = []; flags = []; queues = []; spin_locks = []; handlers = [] }) c e in
+    (λ count sized. record { standard = standard; processors = count; ram = ram; tasks = []; semaphores = []; flags = []; queues = []; spin_locks = []; mutexes = []; handlers = [] }) c e in
     let sized = not-false (is_ram_size ram) (refused_ok (not (is_ram_size ram)) (BadCount line) p.1 p.3) in
     rw (← p.4) (record {
       processors = (within_ok 1 8 (BadProcessor line) processors p.0 p.2).1;
@@ -310,12 +331,14 @@ board_ok standard line processors ram c e =
       flags = λ k d lt. absurd (omega arith);
       queues = λ k d lt. absurd (omega arith);
       spin_locks = λ k d lt. absurd (omega arith);
+      mutexes = λ k d lt. absurd (omega arith);
       handlers = λ k d lt. absurd (omega arith);
       task_ids = λ i j d lt below. absurd (omega arith);
       semaphore_ids = λ i j d lt below. absurd (omega arith);
       flag_ids = λ i j d lt below. absurd (omega arith);
       queue_ids = λ i j d lt below. absurd (omega arith);
       spin_lock_ids = λ i j d lt below. absurd (omega arith);
+      mutex_ids = λ i j d lt below. absurd (omega arith);
       handler_lines = λ i j d lt below. absurd (omega arith);
     })
 

@@ -6,6 +6,9 @@ use Rattle.brd_config.specs.declared.objects.SemaphoreConfig.{SemaphoreConfig}
 use Rattle.brd_config.specs.declared.objects.FlagConfig.{FlagConfig}
 use Rattle.brd_config.specs.declared.objects.QueueConfig.{QueueConfig}
 use Rattle.brd_config.specs.declared.objects.SpinLockConfig.{SpinLockConfig}
+use Rattle.brd_config.specs.declared.objects.MutexConfig.{MutexConfig}
+use Rattle.brd_config.specs.declared.objects.Protocol.{Protocol}
+use Rattle.brd_config.specs.declared.objects.Protocol.TheVariants as protocol
 use Rattle.brd_config.specs.declared.objects.HandlerConfig.{HandlerConfig}
 
 -- whether the kernel has the profile PROFILE(STANDARD), and the objects of each kind in the order of their statements
@@ -18,6 +21,7 @@ pub record Configuration : Type 0 where
   pub flags : List FlagConfig
   pub queues : List QueueConfig
   pub spin_locks : List SpinLockConfig
+  pub mutexes : List MutexConfig
   pub handlers : List HandlerConfig
 
 -- from low to high
@@ -50,6 +54,17 @@ pub record IsQueue (q : QueueConfig) : Type 0 where
 pub record IsSpinLock (s : SpinLockConfig) : Type 0 where
   pub id : IsWithin 1 255 s.id
 
+-- the highest priority that a mutex may have as its ceiling: one with TA_CEILING has one, of others it has no effect
+abbrev pub least_ceiling : Protocol → ℕ
+least_ceiling protocol.Arrival = 0
+least_ceiling protocol.Priority = 0
+least_ceiling protocol.Inherit = 0
+least_ceiling protocol.Ceiling = 1
+
+pub record IsMutex (m : MutexConfig) : Type 0 where
+  pub id : IsWithin 1 255 m.id
+  pub ceiling : IsWithin (least_ceiling m.protocol) 16 m.ceiling
+
 pub record IsHandler (processors : ℕ) (h : HandlerConfig) : Type 0 where
   pub line : h.line ≤ 31
   pub processor : IsWithin 1 processors h.processor
@@ -62,10 +77,12 @@ pub record IsConfiguration (c : Configuration) : Type 0 where
   pub flags : All IsFlag c.flags
   pub queues : All IsQueue c.queues
   pub spin_locks : All IsSpinLock c.spin_locks
+  pub mutexes : All IsMutex c.mutexes
   pub handlers : All (IsHandler c.processors) c.handlers
   pub task_ids : AllPairs (λ s t. s.id ≢ t.id) c.tasks
   pub semaphore_ids : AllPairs (λ s t. s.id ≢ t.id) c.semaphores
   pub flag_ids : AllPairs (λ s t. s.id ≢ t.id) c.flags
   pub queue_ids : AllPairs (λ s t. s.id ≢ t.id) c.queues
   pub spin_lock_ids : AllPairs (λ s t. s.id ≢ t.id) c.spin_locks
+  pub mutex_ids : AllPairs (λ s t. s.id ≢ t.id) c.mutexes
   pub handler_lines : AllPairs (λ s t. s.line ≢ t.line) c.handlers

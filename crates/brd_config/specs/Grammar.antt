@@ -14,19 +14,21 @@ use Rattle.brd_config.specs.declared.objects.SemaphoreConfig.{SemaphoreConfig}
 use Rattle.brd_config.specs.declared.objects.FlagConfig.{FlagConfig}
 use Rattle.brd_config.specs.declared.objects.QueueConfig.{QueueConfig}
 use Rattle.brd_config.specs.declared.objects.SpinLockConfig.{SpinLockConfig}
+use Rattle.brd_config.specs.declared.objects.MutexConfig.{MutexConfig}
 use Rattle.brd_config.specs.declared.objects.HandlerConfig.{HandlerConfig}
 use Rattle.brd_config.specs.declared.statement.Statement.{Statement}
 use Rattle.brd_config.specs.declared.statement.Statement.TheVariants.{Board, Class, ClassEnd, Task, Semaphore, Flag}
-use Rattle.brd_config.specs.declared.statement.Statement.TheVariants.{Queue, SpinLock, Handler}
+use Rattle.brd_config.specs.declared.statement.Statement.TheVariants.{Queue, SpinLock, Mutex, Handler}
 use Rattle.brd_config.specs.declared.statement.TaskStatement.{TaskStatement}
 use Rattle.brd_config.specs.declared.statement.SemaphoreStatement.{SemaphoreStatement}
 use Rattle.brd_config.specs.declared.statement.FlagStatement.{FlagStatement}
 use Rattle.brd_config.specs.declared.statement.QueueStatement.{QueueStatement}
 use Rattle.brd_config.specs.declared.statement.SpinLockStatement.{SpinLockStatement}
+use Rattle.brd_config.specs.declared.statement.MutexStatement.{MutexStatement}
 use Rattle.brd_config.specs.declared.statement.HandlerStatement.{HandlerStatement}
-use Rattle.brd_config.specs.Reading.{attribute_of, class_of, operand_of, stack_of, is_area}
+use Rattle.brd_config.specs.Reading.{attribute_of, class_of, protocol_of, operand_of, stack_of, is_area}
 use Rattle.brd_config.specs.Configuration.{Configuration, IsWithin, IsConfiguration}
-use Rattle.brd_config.specs.Meaning.{processor_of}
+use Rattle.brd_config.specs.Meaning.{processor_of, meant_protocol}
 
 -- ---- tokens
 
@@ -40,6 +42,7 @@ pub data Piece : Type 0 where
   StackValue : Stack → Piece
   Area : Piece
   ClassName : ℕ → Piece
+  Protocol : ℕ → Piece
 
 -- Attributes with bars between them, whose bits are joined to those before them and come to all of them.
 pub data Joined : ℕ → ℕ → List Token → Type 0 where
@@ -61,6 +64,7 @@ IsSpelled (Value v) tokens = OneRun (λ run. operand_of run ≡ Some v) tokens
 IsSpelled (StackValue v) tokens = OneRun (λ run. stack_of run ≡ Some v) tokens
 IsSpelled Area tokens = OneRun (λ run. is_area run ≡ true) tokens
 IsSpelled (ClassName n) tokens = OneRun (λ run. class_of run ≡ Some n) tokens
+IsSpelled (Protocol n) tokens = OneRun (λ run. protocol_of run ≡ Some n) tokens
 
 -- one piece after the other
 abbrev pub AreSpelled : List Piece → List Token → Type 0
@@ -91,6 +95,9 @@ form (Queue q) = object (codes "CRE_DTQ") q.id q.attributes (Numeral q.capacity 
 form (SpinLock s) =
     Exactly (codes "CRE_SPN") ∷ Sign 40 ∷ Numeral s.id ∷ Sign 44 ∷ Sign 123 ∷ Attributes s.attributes ∷ Sign 125
     ∷ Sign 41 ∷ Sign 59 ∷ []
+form (Mutex m) =
+    Exactly (codes "CRE_MTX") ∷ Sign 40 ∷ Numeral m.id ∷ Sign 44 ∷ Sign 123 ∷ Protocol m.protocol ∷ Sign 44
+    ∷ Numeral m.ceiling ∷ Sign 125 ∷ Sign 41 ∷ Sign 59 ∷ []
 form (Handler h) = object (codes "DEF_INH") h.line h.attributes (Value h.address ∷ [])
 
 -- what stands before all statements where the profile is asked for
@@ -134,6 +141,9 @@ queue_said q = record { id = q.id; attributes = record { 0 = q.attributes }; cap
 abbrev pub spin_lock_said : SpinLockStatement → SpinLockConfig
 spin_lock_said s = record { id = s.id }
 
+abbrev pub mutex_said : MutexStatement → MutexConfig
+mutex_said m = record { id = m.id; protocol = meant_protocol m.protocol; ceiling = m.ceiling }
+
 abbrev pub handler_said : ℕ → HandlerStatement → HandlerConfig
 handler_said processor h = record { line = h.line; processor = processor; address = h.address }
 
@@ -148,6 +158,7 @@ tasks_of class (Semaphore s ∷ ss) = tasks_of class ss
 tasks_of class (Flag f ∷ ss) = tasks_of class ss
 tasks_of class (Queue q ∷ ss) = tasks_of class ss
 tasks_of class (SpinLock s ∷ ss) = tasks_of class ss
+tasks_of class (Mutex s ∷ ss) = tasks_of class ss
 tasks_of class (Handler h ∷ ss) = tasks_of class ss
 
 abbrev pub semaphores_of : List Statement → List SemaphoreConfig
@@ -160,6 +171,7 @@ semaphores_of (Semaphore s ∷ ss) = semaphore_said s ∷ semaphores_of ss
 semaphores_of (Flag f ∷ ss) = semaphores_of ss
 semaphores_of (Queue q ∷ ss) = semaphores_of ss
 semaphores_of (SpinLock s ∷ ss) = semaphores_of ss
+semaphores_of (Mutex s ∷ ss) = semaphores_of ss
 semaphores_of (Handler h ∷ ss) = semaphores_of ss
 
 abbrev pub flags_of : List Statement → List FlagConfig
@@ -172,6 +184,7 @@ flags_of (Semaphore s ∷ ss) = flags_of ss
 flags_of (Flag f ∷ ss) = flag_said f ∷ flags_of ss
 flags_of (Queue q ∷ ss) = flags_of ss
 flags_of (SpinLock s ∷ ss) = flags_of ss
+flags_of (Mutex s ∷ ss) = flags_of ss
 flags_of (Handler h ∷ ss) = flags_of ss
 
 abbrev pub queues_of : List Statement → List QueueConfig
@@ -184,6 +197,7 @@ queues_of (Semaphore s ∷ ss) = queues_of ss
 queues_of (Flag f ∷ ss) = queues_of ss
 queues_of (Queue q ∷ ss) = queue_said q ∷ queues_of ss
 queues_of (SpinLock s ∷ ss) = queues_of ss
+queues_of (Mutex s ∷ ss) = queues_of ss
 queues_of (Handler h ∷ ss) = queues_of ss
 
 abbrev pub spin_locks_of : List Statement → List SpinLockConfig
@@ -196,7 +210,21 @@ spin_locks_of (Semaphore s ∷ ss) = spin_locks_of ss
 spin_locks_of (Flag f ∷ ss) = spin_locks_of ss
 spin_locks_of (Queue q ∷ ss) = spin_locks_of ss
 spin_locks_of (SpinLock s ∷ ss) = spin_lock_said s ∷ spin_locks_of ss
+spin_locks_of (Mutex s ∷ ss) = spin_locks_of ss
 spin_locks_of (Handler h ∷ ss) = spin_locks_of ss
+
+abbrev pub mutexes_of : List Statement → List MutexConfig
+mutexes_of [] = []
+mutexes_of (Board processors ram ∷ ss) = mutexes_of ss
+mutexes_of (Class n ∷ ss) = mutexes_of ss
+mutexes_of (ClassEnd ∷ ss) = mutexes_of ss
+mutexes_of (Task t ∷ ss) = mutexes_of ss
+mutexes_of (Semaphore s ∷ ss) = mutexes_of ss
+mutexes_of (Flag f ∷ ss) = mutexes_of ss
+mutexes_of (Queue q ∷ ss) = mutexes_of ss
+mutexes_of (SpinLock s ∷ ss) = mutexes_of ss
+mutexes_of (Mutex s ∷ ss) = mutex_said s ∷ mutexes_of ss
+mutexes_of (Handler h ∷ ss) = mutexes_of ss
 
 abbrev pub handlers_of : Option ℕ → List Statement → List HandlerConfig
 handlers_of class [] = []
@@ -208,6 +236,7 @@ handlers_of class (Semaphore s ∷ ss) = handlers_of class ss
 handlers_of class (Flag f ∷ ss) = handlers_of class ss
 handlers_of class (Queue q ∷ ss) = handlers_of class ss
 handlers_of class (SpinLock s ∷ ss) = handlers_of class ss
+handlers_of class (Mutex s ∷ ss) = handlers_of class ss
 handlers_of class (Handler h ∷ ss) = handler_said (processor_of class) h ∷ handlers_of class ss
 
 -- the configuration of a board and the statements after it, whatever their values
@@ -222,6 +251,7 @@ said standard processors ram ss =
       flags = flags_of ss;
       queues = queues_of ss;
       spin_locks = spin_locks_of ss;
+      mutexes = mutexes_of ss;
       handlers = handlers_of None ss;
     }
 
@@ -234,24 +264,26 @@ IsInside None = ⊥
 IsInside (Some n) = Unit {0}
 
 -- Statements after BOARD, of which the first stands in this class: each class names a processor of the board and is
--- closed again, no class is in a class, BOARD does not come again, a spin lock has no attribute bits, and a handler
--- none but the lowest.
+-- closed again, no class is in a class, BOARD does not come again, a spin lock has no attribute bits, a handler none but
+-- the lowest, and a mutex one of four, in the profile alone.
 -- (The other limits are those of the configuration.)
-abbrev pub AreNested : ℕ → Option ℕ → List Statement → Type 0
-AreNested processors class [] = IsOutside class
-AreNested processors class (Board p ram ∷ ss) = ⊥
-AreNested processors class (Class n ∷ ss) = IsOutside class × IsWithin 1 processors n × AreNested processors (Some n) ss
-AreNested processors class (ClassEnd ∷ ss) = IsInside class × AreNested processors None ss
-AreNested processors class (Task t ∷ ss) = AreNested processors class ss
-AreNested processors class (Semaphore s ∷ ss) = AreNested processors class ss
-AreNested processors class (Flag f ∷ ss) = AreNested processors class ss
-AreNested processors class (Queue q ∷ ss) = AreNested processors class ss
-AreNested processors class (SpinLock s ∷ ss) = (s.attributes ≡ 0) × AreNested processors class ss
-AreNested processors class (Handler h ∷ ss) = (h.attributes ≤ 1) × AreNested processors class ss
+abbrev pub AreNested : Bool → ℕ → Option ℕ → List Statement → Type 0
+AreNested standard processors class [] = IsOutside class
+AreNested standard processors class (Board p ram ∷ ss) = ⊥
+AreNested standard processors class (Class n ∷ ss) = IsOutside class × IsWithin 1 processors n × AreNested standard processors (Some n) ss
+AreNested standard processors class (ClassEnd ∷ ss) = IsInside class × AreNested standard processors None ss
+AreNested standard processors class (Task t ∷ ss) = AreNested standard processors class ss
+AreNested standard processors class (Semaphore s ∷ ss) = AreNested standard processors class ss
+AreNested standard processors class (Flag f ∷ ss) = AreNested standard processors class ss
+AreNested standard processors class (Queue q ∷ ss) = AreNested standard processors class ss
+AreNested standard processors class (SpinLock s ∷ ss) = (s.attributes ≡ 0) × AreNested standard processors class ss
+AreNested standard processors class (Mutex m ∷ ss) =
+    (standard ≡ true) × (m.protocol ≤ 3) × AreNested standard processors class ss
+AreNested standard processors class (Handler h ∷ ss) = (h.attributes ≤ 1) × AreNested standard processors class ss
 
 -- Statements that are valid: well nested, and what they say is a configuration.
 pub record AreValid (standard : Bool) (processors ram : ℕ) (ss : List Statement) : Type 0 where
-  pub nested : AreNested processors None ss
+  pub nested : AreNested standard processors None ss
   pub values : IsConfiguration (said standard processors ram ss)
 
 -- The text is that of valid statements, BOARD first but for the profile, and this is what they say.

@@ -19,18 +19,22 @@ use Rattle.brd_config.specs.declared.objects.SemaphoreConfig.{SemaphoreConfig}
 use Rattle.brd_config.specs.declared.objects.FlagConfig.{FlagConfig}
 use Rattle.brd_config.specs.declared.objects.QueueConfig.{QueueConfig}
 use Rattle.brd_config.specs.declared.objects.SpinLockConfig.{SpinLockConfig}
+use Rattle.brd_config.specs.declared.objects.MutexConfig.{MutexConfig}
 use Rattle.brd_config.specs.declared.objects.HandlerConfig.{HandlerConfig}
 use Rattle.brd_config.specs.declared.statement.TaskStatement.{TaskStatement}
 use Rattle.brd_config.specs.declared.statement.SemaphoreStatement.{SemaphoreStatement}
 use Rattle.brd_config.specs.declared.statement.FlagStatement.{FlagStatement}
 use Rattle.brd_config.specs.declared.statement.QueueStatement.{QueueStatement}
 use Rattle.brd_config.specs.declared.statement.SpinLockStatement.{SpinLockStatement}
+use Rattle.brd_config.specs.declared.statement.MutexStatement.{MutexStatement}
 use Rattle.brd_config.specs.declared.statement.HandlerStatement.{HandlerStatement}
 use Rattle.brd_config.specs.declared.statement.Statement.{Statement}
 use Rattle.brd_config.specs.declared.statement.Statement.TheVariants.{Board, Class, ClassEnd, Task, Semaphore, Flag}
-use Rattle.brd_config.specs.declared.statement.Statement.TheVariants.{Queue, SpinLock, Handler}
+use Rattle.brd_config.specs.declared.statement.Statement.TheVariants.{Queue, SpinLock, Mutex, Handler}
 use Rattle.brd_config.specs.Statements.{board_at, statement_at}
-use Rattle.brd_config.specs.Configuration.{Configuration}
+use Rattle.brd_config.specs.declared.objects.Protocol.{Protocol}
+use Rattle.brd_config.specs.declared.objects.Protocol.TheVariants as protocol
+use Rattle.brd_config.specs.Configuration.{Configuration, least_ceiling}
 
 -- ---- tests of values
 
@@ -118,6 +122,20 @@ spin_lock_of line spin_locks s = do
   attributes ← only_bits 0 (BadAttribute line) s.attributes
   Ok (record { id = id })
 
+-- what the attribute of a mutex stands for
+abbrev pub meant_protocol : ℕ → Protocol
+meant_protocol n =
+    if n == 0 then protocol.Arrival
+    else (if n == 1 then protocol.Priority else (if n == 2 then protocol.Inherit else protocol.Ceiling))
+
+unfoldable pub mutex_of : ℕ → List MutexConfig → MutexStatement → Result MutexConfig ConfigFault
+mutex_of line mutexes m = do
+  id ← within 1 255 (BadId line) m.id
+  new ← refused (list_any (λ other. other.id == m.id) mutexes) (Duplicate line)
+  number ← within 0 3 (BadAttribute line) m.protocol
+  ceiling ← within (least_ceiling (meant_protocol m.protocol)) 16 (BadPriority line) m.ceiling
+  Ok (record { id = id; protocol = meant_protocol number; ceiling = ceiling })
+
 -- A handler on this processor. Lines are the board's, so each has one handler.
 unfoldable pub handler_of : ℕ → List HandlerConfig → ℕ → HandlerStatement → Result HandlerConfig ConfigFault
 handler_of line handlers processor h = do
@@ -140,6 +158,7 @@ board_of standard line processors ram = do
     flags = [];
     queues = [];
     spin_locks = [];
+    mutexes = [];
     handlers = [];
   })
 
@@ -167,6 +186,9 @@ added line s (Queue x) = do
 added line s (SpinLock x) = do
   spin_lock ← spin_lock_of line s.config.spin_locks x
   Ok (record s { config = record s.config { spin_locks = s.config.spin_locks ++ spin_lock ∷ [] } })
+added line s (Mutex x) = do
+  mutex ← mutex_of line s.config.mutexes x
+  Ok (record s { config = record s.config { mutexes = s.config.mutexes ++ mutex ∷ [] } })
 added line s (Handler x) = do
   handler ← handler_of line s.config.handlers (processor_of s.class) x
   Ok (record s { config = record s.config { handlers = s.config.handlers ++ handler ∷ [] } })
@@ -182,7 +204,7 @@ is_end End = true
 -- one more statement, which is read and says something
 unfoldable pub one_more : State × Text → Result (Flow (State × Text) Configuration) ConfigFault
 one_more x = do
-  read ← statement_at (is_some x.0.class) x.1
+  read ← statement_at x.0.config.standard (is_some x.0.class) x.1
   next ← added (first x.1).line x.0 read.0
   Ok (More (next, read.1))
 

@@ -47,6 +47,21 @@ named_or_number None run = number_of run
 unfoldable pub attribute_of : List ℕ → Option ℕ
 attribute_of run = named_or_number (attribute_named run) run
 
+-- the attributes of mutexes, of which each has one
+abbrev pub protocol_names : List (List ℕ × ℕ)
+protocol_names =
+    (codes "TA_NULL", 0) ∷
+    (codes "TA_TFIFO", 0) ∷
+    (codes "TA_TPRI", 1) ∷
+    (codes "TA_INHERIT", 2) ∷
+    (codes "TA_CEILING", 3) ∷ []
+
+unfoldable pub protocol_named : List ℕ → Option ℕ
+protocol_named run = named_in protocol_names run
+
+unfoldable pub protocol_of : List ℕ → Option ℕ
+protocol_of run = named_or_number (protocol_named run) run
+
 -- TCL_ and a decimal number
 unfoldable pub class_of : List ℕ → Option ℕ
 class_of run = if bytes_eq (take 4 run) (codes "TCL_") then decimal_of (drop 4 run) most_word else None
@@ -144,6 +159,13 @@ unfoldable pub class_number_at : Text → Result (ℕ × Text) ConfigFault
 class_number_at t = do
   run ← run_of (first t).token (first t).line
   n ← or_fault (Syntax (first t).line) (class_of run)
+  Ok (n, others t)
+
+-- the attribute of a mutex, as a name or a number
+unfoldable pub protocol_at : Text → Result (ℕ × Text) ConfigFault
+protocol_at t = do
+  run ← run_of (first t).token (first t).line
+  n ← or_fault (Syntax (first t).line) (protocol_of run)
   Ok (n, others t)
 
 -- ---- the parts that statements share

@@ -10,10 +10,10 @@ use Rattle.brd_config.specs.declared.statement.Keyword.{Keyword}
 use Rattle.brd_config.specs.declared.statement.Keyword.TheVariants as keywords
 use Rattle.brd_config.specs.declared.statement.Statement.{Statement}
 use Rattle.brd_config.specs.declared.statement.Statement.TheVariants.{Board, Class, ClassEnd, Task, Semaphore, Flag}
-use Rattle.brd_config.specs.declared.statement.Statement.TheVariants.{Queue, SpinLock, Handler}
+use Rattle.brd_config.specs.declared.statement.Statement.TheVariants.{Queue, SpinLock, Mutex, Handler}
 use Rattle.brd_config.specs.declared.objects.Stack.{Stack}
 use Rattle.brd_config.specs.Reading.{named_in, number_at, listed_number_at, listed_operand_at, mark_at, operand_at}
-use Rattle.brd_config.specs.Reading.{stack_at, area_at, class_number_at, head_at, tail_at}
+use Rattle.brd_config.specs.Reading.{stack_at, area_at, class_number_at, protocol_at, head_at, tail_at}
 
 abbrev pub keyword_names : List (List ℕ × Keyword)
 keyword_names =
@@ -24,6 +24,7 @@ keyword_names =
     (codes "CRE_FLG", keywords.Flag) ∷
     (codes "CRE_DTQ", keywords.Queue) ∷
     (codes "CRE_SPN", keywords.SpinLock) ∷
+    (codes "CRE_MTX", keywords.Mutex) ∷
     (codes "DEF_INH", keywords.Handler) ∷ []
 
 unfoldable pub keyword_of : List ℕ → Option Keyword
@@ -112,6 +113,18 @@ spin_lock_at t = do
   ended ← mark_at 59 closed
   Ok (SpinLock (record { id = head.0; attributes = head.1 }), ended)
 
+-- CRE_MTX(mtxid, {mtxatr, ceilpri});
+unfoldable pub mutex_at : Text → Result (Statement × Text) ConfigFault
+mutex_at t = do
+  opened ← mark_at 40 t
+  id ← listed_number_at opened
+  inner ← mark_at 123 id.1
+  protocol ← protocol_at inner
+  listed ← mark_at 44 protocol.1
+  ceiling ← number_at listed
+  ended ← tail_at ceiling.1
+  Ok (Mutex (record { id = id.0; protocol = protocol.0; ceiling = ceiling.0 }), ended)
+
 -- DEF_INH(inhno, {inhatr, inthdr});
 unfoldable pub handler_at : Text → Result (Statement × Text) ConfigFault
 handler_at t = do
@@ -120,28 +133,29 @@ handler_at t = do
   ended ← tail_at address.1
   Ok (Handler (record { line = head.0; attributes = head.1; address = address.0 }), ended)
 
--- What follows a keyword on this line. A class has no class in it.
-unfoldable pub behind_keyword : Bool → ℕ → Keyword → Text → Result (Statement × Text) ConfigFault
-behind_keyword in_class line keywords.Board t = do
+-- What follows a keyword on this line. A class has no class in it, and without the profile there are no mutexes.
+unfoldable pub behind_keyword : Bool → Bool → ℕ → Keyword → Text → Result (Statement × Text) ConfigFault
+behind_keyword standard in_class line keywords.Board t = do
   board ← board_at t
   Ok (Board board.0 board.1, board.2)
-behind_keyword in_class line keywords.Class t = if in_class then Err (Syntax line) else class_at t
-behind_keyword in_class line keywords.Task t = task_at t
-behind_keyword in_class line keywords.Semaphore t = semaphore_at t
-behind_keyword in_class line keywords.Flag t = flag_at t
-behind_keyword in_class line keywords.Queue t = queue_at t
-behind_keyword in_class line keywords.SpinLock t = spin_lock_at t
-behind_keyword in_class line keywords.Handler t = handler_at t
+behind_keyword standard in_class line keywords.Class t = if in_class then Err (Syntax line) else class_at t
+behind_keyword standard in_class line keywords.Task t = task_at t
+behind_keyword standard in_class line keywords.Semaphore t = semaphore_at t
+behind_keyword standard in_class line keywords.Flag t = flag_at t
+behind_keyword standard in_class line keywords.Queue t = queue_at t
+behind_keyword standard in_class line keywords.SpinLock t = spin_lock_at t
+behind_keyword standard in_class line keywords.Mutex t = if standard then mutex_at t else Err (Syntax line)
+behind_keyword standard in_class line keywords.Handler t = handler_at t
 
 -- What the first token of a statement begins, before rest. A closing brace ends a class.
-abbrev pub statement_by : Bool → Token → ℕ → Text → Result (Statement × Text) ConfigFault
-statement_by in_class (Run run) line rest = do
+abbrev pub statement_by : Bool → Bool → Token → ℕ → Text → Result (Statement × Text) ConfigFault
+statement_by standard in_class (Run run) line rest = do
   keyword ← or_fault (Syntax line) (keyword_of run)
-  behind_keyword in_class line keyword rest
-statement_by in_class (Mark b) line rest = if in_class && (b == 125) then Ok (ClassEnd, rest) else Err (Syntax line)
-statement_by in_class Unclosed line rest = Err (Syntax line)
-statement_by in_class End line rest = Err (Syntax line)
+  behind_keyword standard in_class line keyword rest
+statement_by standard in_class (Mark b) line rest = if in_class && (b == 125) then Ok (ClassEnd, rest) else Err (Syntax line)
+statement_by standard in_class Unclosed line rest = Err (Syntax line)
+statement_by standard in_class End line rest = Err (Syntax line)
 
--- the statement at the front, in a class or outside
-unfoldable pub statement_at : Bool → Text → Result (Statement × Text) ConfigFault
-statement_at in_class t = statement_by in_class (first t).token (first t).line (others t)
+-- the statement at the front, with the profile or without, in a class or outside
+unfoldable pub statement_at : Bool → Bool → Text → Result (Statement × Text) ConfigFault
+statement_at standard in_class t = statement_by standard in_class (first t).token (first t).line (others t)

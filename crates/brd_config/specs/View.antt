@@ -15,6 +15,7 @@ view c =
       flags = c.flags;
       queues = c.queues;
       spin_locks = c.spin_locks;
+      mutexes = c.mutexes;
       handlers = c.handlers;
     }
 
@@ -29,6 +30,7 @@ drafted d =
       flags = d.flags;
       queues = d.queues;
       spin_locks = d.spin_locks;
+      mutexes = d.mutexes;
       handlers = d.handlers;
     }
 

@@ -3,16 +3,18 @@
 ghost use Rattle.std.specs.Prelude.{◌≡◌, ◌==◌, ◌≤◌, IfOk};
 ghost use Rattle.std.specs.List.{list_any};
 ghost use Rattle.brd_config.specs.Faults.{Gives};
+ghost use Rattle.brd_config.specs.Configuration as configuration;
 ghost use Rattle.brd_config.specs.Meaning as meaning;
 
 use crate::attributes::{FlagAttributes, QueueAttributes, SemaphoreAttributes, TaskAttributes};
 use crate::fault::ConfigFault;
 use crate::objects::{
-    FlagConfig, HandlerConfig, QueueConfig, SemaphoreConfig, SpinLockConfig, TaskConfig,
+    FlagConfig, HandlerConfig, MutexConfig, Protocol, QueueConfig, SemaphoreConfig, SpinLockConfig,
+    TaskConfig,
 };
 use crate::statement::{
-    FlagStatement, HandlerStatement, QueueStatement, SemaphoreStatement, SpinLockStatement,
-    TaskStatement,
+    FlagStatement, HandlerStatement, MutexStatement, QueueStatement, SemaphoreStatement,
+    SpinLockStatement, TaskStatement,
 };
 use bitflags::Flags;
 
@@ -78,6 +80,13 @@ fn has_spin_lock(spin_locks: &[SpinLockConfig], id: u32) -> bool
     ensures { result ≡ list_any (λ other. other.id == id) spin_locks.now }
 {
     spin_locks.iter().any(|other| other.id as u32 == id)
+}
+
+/// Whether one of the mutexes has this ID.
+fn has_mutex(mutexes: &[MutexConfig], id: u32) -> bool
+    ensures { result ≡ list_any (λ other. other.id == id) mutexes.now }
+{
+    mutexes.iter().any(|other| other.id as u32 == id)
 }
 
 /// Whether one of the handlers has this line.
@@ -219,6 +228,51 @@ pub(crate) fn spin_lock(
     }
     only_bits(statement.attributes, 0, ConfigFault::BadAttribute { line })?;
     Ok(SpinLockConfig { id: id as u8 })
+}
+
+/// What the attribute of a mutex stands for.
+fn meant_protocol(number: u32) -> Protocol
+    ensures { result ≡ meaning.meant_protocol number }
+{
+    match number {
+        0 => Protocol::Arrival,
+        1 => Protocol::Priority,
+        2 => Protocol::Inherit,
+        _ => Protocol::Ceiling,
+    }
+}
+
+/// The least number that a mutex may have as its ceiling.
+fn least_ceiling(protocol: Protocol) -> u32
+    ensures { result ≡ configuration.least_ceiling protocol }
+{
+    match protocol {
+        Protocol::Ceiling => 1,
+        _ => 0,
+    }
+}
+
+/// The mutex of a statement that begins on this line, next to the mutexes that are defined.
+#[tactic(auto, unfolding(crate::specs::Meaning::mutex_of))]
+pub(crate) fn mutex(
+    line: usize,
+    mutexes: &[MutexConfig],
+    statement: MutexStatement,
+) -> Result<MutexConfig, ConfigFault>
+    ensures { Gives (λ m. m) result (meaning.mutex_of line mutexes.now statement) }
+{
+    let id = within(statement.id, 1, 255, ConfigFault::BadId { line })?;
+    if has_mutex(mutexes, statement.id) {
+        return Err(ConfigFault::Duplicate { line });
+    }
+    let number = within(statement.protocol, 0, 3, ConfigFault::BadAttribute { line })?;
+    let least = least_ceiling(meant_protocol(statement.protocol));
+    let ceiling = within(statement.ceiling, least, 16, ConfigFault::BadPriority { line })?;
+    Ok(MutexConfig {
+        id: id as u16,
+        protocol: meant_protocol(number),
+        ceiling: ceiling as u8,
+    })
 }
 
 /// The handler of a statement that begins on this line, on this processor, next to the handlers that are defined.

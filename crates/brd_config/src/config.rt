@@ -3,7 +3,7 @@
 ghost use Rattle.brd_config.specs.Configuration.{IsConfiguration};
 
 use crate::objects::{
-    FlagConfig, HandlerConfig, QueueConfig, SemaphoreConfig, SpinLockConfig, TaskConfig,
+    FlagConfig, HandlerConfig, MutexConfig, QueueConfig, SemaphoreConfig, SpinLockConfig, TaskConfig,
 };
 use brd_base::List;
 
@@ -21,6 +21,7 @@ pub struct Config {
     pub flags: List<FlagConfig>,
     pub queues: List<QueueConfig>,
     pub spin_locks: List<SpinLockConfig>,
+    pub mutexes: List<MutexConfig>,
     pub handlers: List<HandlerConfig>,
     ghost valid: { IsConfiguration
         (record {
@@ -32,6 +33,7 @@ pub struct Config {
           flags = flags;
           queues = queues;
           spin_locks = spin_locks;
+          mutexes = mutexes;
           handlers = handlers;
         }) },
 }
@@ -48,6 +50,7 @@ impl Drop for Config {
             flags: _,
             queues: _,
             spin_locks: _,
+            mutexes: _,
             handlers: _,
         } = self;
     }

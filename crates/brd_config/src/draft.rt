@@ -1,7 +1,7 @@
 //! What the statements so far have said.
 
 use crate::objects::{
-    FlagConfig, HandlerConfig, QueueConfig, SemaphoreConfig, SpinLockConfig, TaskConfig,
+    FlagConfig, HandlerConfig, MutexConfig, QueueConfig, SemaphoreConfig, SpinLockConfig, TaskConfig,
 };
 use brd_base::List;
 
@@ -16,6 +16,7 @@ pub struct Draft {
     pub flags: List<FlagConfig>,
     pub queues: List<QueueConfig>,
     pub spin_locks: List<SpinLockConfig>,
+    pub mutexes: List<MutexConfig>,
     pub handlers: List<HandlerConfig>,
     /// The processor of the class in which the next statement stands.
     pub class: Option<u8>,

@@ -19,10 +19,10 @@ pub use config::Config;
 pub use draft::Draft;
 pub use fault::ConfigFault;
 pub use objects::{
-    FlagConfig, HandlerConfig, Operand, QueueConfig, SemaphoreConfig, SpinLockConfig, Stack,
-    TaskConfig,
+    FlagConfig, HandlerConfig, MutexConfig, Operand, Protocol, QueueConfig, SemaphoreConfig,
+    SpinLockConfig, Stack, TaskConfig,
 };
 pub use parser::{open, parse, read_board, read_statement};
-pub use reading::{attribute_named, class_of};
+pub use reading::{attribute_named, class_of, protocol_named};
 pub use statement::Keyword;
 pub use statements::{KEYWORDS, keyword_of};

@@ -77,6 +77,29 @@ pub struct SpinLockConfig {
     pub id: u8,
 }
 
+/// In which order tasks wait for a mutex, and what it does to the priority of who has it.
+#[derive(Clone, Copy, PartialEq, Eq)]
+pub enum Protocol {
+    /// They wait by arrival (TA_TFIFO).
+    Arrival,
+    /// They wait by priority (TA_TPRI).
+    Priority,
+    /// They wait by priority, and who has it has no lower priority than they (TA_INHERIT).
+    Inherit,
+    /// They wait by priority, and who has it has no lower priority than its ceiling (TA_CEILING).
+    Ceiling,
+}
+
+/// A mutex, as `CRE_MTX` says it.
+#[derive(Drop)]
+pub struct MutexConfig {
+    /// 1 to 255.
+    pub id: u16,
+    pub protocol: Protocol,
+    /// Up to 16; with TA_CEILING from 1.
+    pub ceiling: u8,
+}
+
 /// An interrupt handler, as `DEF_INH` says it.
 #[derive(Drop)]
 pub struct HandlerConfig {

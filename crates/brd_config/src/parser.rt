@@ -44,6 +44,7 @@ fn begun(
         flags: List::new(alloc),
         queues: List::new(alloc),
         spin_locks: List::new(alloc),
+        mutexes: List::new(alloc),
         handlers: List::new(alloc),
         class: None,
     })
@@ -86,6 +87,10 @@ fn add(draft: &mut Draft, line: usize, statement: Statement) -> Result<(), Confi
             let spin_lock = checks::spin_lock(line, draft.spin_locks.as_slice(), spin_lock)?;
             draft.spin_locks.push(spin_lock)?;
         }
+        Statement::Mutex(mutex) => {
+            let mutex = checks::mutex(line, draft.mutexes.as_slice(), mutex)?;
+            draft.mutexes.push(mutex)?;
+        }
         Statement::Handler(handler) => {
             let processor = draft.class.unwrap_or(1);
             let handler = checks::handler(line, draft.handlers.as_slice(), processor, handler)?;
@@ -111,7 +116,7 @@ pub fn read_statement(
     if !in_class && matches!(token, Token::End) {
         return Ok(false);
     }
-    let statement = statement(alloc, in_class, token, line, tokens)?;
+    let statement = statement(alloc, draft.standard, in_class, token, line, tokens)?;
     add(draft, line, statement)?;
     Ok(true)
 }
@@ -224,6 +229,7 @@ fn whole(draft: Draft) -> Config
         flags: draft.flags,
         queues: draft.queues,
         spin_locks: draft.spin_locks,
+        mutexes: draft.mutexes,
         handlers: draft.handlers,
     }
 }

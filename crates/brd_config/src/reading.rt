@@ -56,6 +56,34 @@ fn attribute_of(run: &[u8]) -> Option<u32>
     }
 }
 
+/// The attributes of mutexes.
+const PROTOCOLS: &[(&[u8], u32)] = &[
+    (b"TA_NULL", 0),
+    (b"TA_TFIFO", 0),
+    (b"TA_TPRI", 1),
+    (b"TA_INHERIT", 2),
+    (b"TA_CEILING", 3),
+];
+
+/// The number of the attribute of a mutex that a run is the name of.
+#[tactic(auto, unfolding(crate::specs::Reading::protocol_named))]
+pub fn protocol_named(run: &[u8]) -> Option<u32>
+    ensures { result ≡ reads.protocol_named run.now }
+{
+    find(PROTOCOLS, run)
+}
+
+/// The number of the attribute of a mutex: a name or a number.
+#[tactic(auto, unfolding(crate::specs::Reading::protocol_of))]
+fn protocol_of(run: &[u8]) -> Option<u32>
+    ensures { result ≡ reads.protocol_of run.now }
+{
+    match protocol_named(run) {
+        Some(number) => Some(number),
+        None => brd_text::number(run),
+    }
+}
+
 /// The number of a class's name.
 #[tactic(auto, unfolding(crate::specs::Reading::class_of))]
 pub fn class_of(run: &[u8]) -> Option<u32>
@@ -243,6 +271,22 @@ pub(crate) fn class_number(tokens: &mut Scanner) -> Result<u32, ConfigFault>
         return Err(ConfigFault::Syntax { line });
     };
     match class_of(run) {
+        Some(number) => Ok(number),
+        None => Err(ConfigFault::Syntax { line }),
+    }
+}
+
+/// Takes the attribute of a mutex.
+#[tactic(auto, unfolding(crate::specs::Reading::protocol_at))]
+pub(crate) fn protocol(tokens: &mut Scanner) -> Result<u32, ConfigFault>
+    ensures read { Gives (λ n. (n, tokens.new)) result (reads.protocol_at tokens.old) }
+    ensures shorter { OnOk result (length tokens.new.tokens < length tokens.old.tokens) }
+{
+    let (token, line) = tokens.next();
+    let Token::Run(run) = token else {
+        return Err(ConfigFault::Syntax { line });
+    };
+    match protocol_of(run) {
         Some(number) => Ok(number),
         None => Err(ConfigFault::Syntax { line }),
     }

@@ -15,6 +15,7 @@ pub(crate) enum Statement {
     Flag(FlagStatement),
     Queue(QueueStatement),
     SpinLock(SpinLockStatement),
+    Mutex(MutexStatement),
     Handler(HandlerStatement),
 }
 
@@ -62,6 +63,14 @@ pub(crate) struct SpinLockStatement {
     pub(crate) attributes: u32,
 }
 
+/// `CRE_MTX(id, {protocol, ceiling});`
+#[derive(Drop)]
+pub(crate) struct MutexStatement {
+    pub(crate) id: u32,
+    pub(crate) protocol: u32,
+    pub(crate) ceiling: u32,
+}
+
 /// `DEF_INH(line, {attributes, address});`
 #[derive(Drop)]
 pub(crate) struct HandlerStatement {
@@ -80,5 +89,6 @@ pub enum Keyword {
     Flag,
     Queue,
     SpinLock,
+    Mutex,
     Handler,
 }

@@ -8,11 +8,11 @@ ghost use Rattle.brd_config.specs.Statements as statements;
 use crate::fault::ConfigFault;
 use crate::objects::Stack;
 use crate::reading::{
-    area, class_number, find, head, listed_number, listed_operand, mark, number, operand, stack,
-    tail,
+    area, class_number, find, head, listed_number, listed_operand, mark, number, operand, protocol,
+    stack, tail,
 };
 use crate::statement::{
-    FlagStatement, HandlerStatement, Keyword, QueueStatement, SemaphoreStatement,
+    FlagStatement, HandlerStatement, Keyword, MutexStatement, QueueStatement, SemaphoreStatement,
     SpinLockStatement, Statement, TaskStatement,
 };
 use brd_text::{Scanner, Token};
@@ -27,6 +27,7 @@ pub const KEYWORDS: &[(&[u8], Keyword)] = &[
     (b"CRE_FLG", Keyword::Flag),
     (b"CRE_DTQ", Keyword::Queue),
     (b"CRE_SPN", Keyword::SpinLock),
+    (b"CRE_MTX", Keyword::Mutex),
     (b"DEF_INH", Keyword::Handler),
 ];
 
@@ -162,6 +163,26 @@ fn spin_lock(tokens: &mut Scanner) -> Result<Statement, ConfigFault>
     Ok(Statement::SpinLock(SpinLockStatement { id, attributes }))
 }
 
+/// Takes what follows `CRE_MTX`.
+#[tactic(auto, unfolding(crate::specs::Statements::mutex_at))]
+fn mutex(tokens: &mut Scanner) -> Result<Statement, ConfigFault>
+    ensures read { Gives (λ s. (s, tokens.new)) result (statements.mutex_at tokens.old) }
+    ensures shorter { OnOk result (length tokens.new.tokens < length tokens.old.tokens) }
+{
+    mark(tokens, b'(')?;
+    let id = listed_number(tokens)?;
+    mark(tokens, b'{')?;
+    let protocol = protocol(tokens)?;
+    mark(tokens, b',')?;
+    let ceiling = number(tokens)?;
+    tail(tokens)?;
+    Ok(Statement::Mutex(MutexStatement {
+        id,
+        protocol,
+        ceiling,
+    }))
+}
+
 /// Takes what follows `DEF_INH`.
 #[tactic(auto, unfolding(crate::specs::Statements::handler_at))]
 fn handler(alloc: Global, tokens: &mut Scanner) -> Result<Statement, ConfigFault>
@@ -182,12 +203,13 @@ fn handler(alloc: Global, tokens: &mut Scanner) -> Result<Statement, ConfigFault
 #[tactic(auto, unfolding(crate::specs::Statements::behind_keyword))]
 fn behind_keyword(
     alloc: Global,
+    standard: bool,
     in_class: bool,
     line: usize,
     keyword: Keyword,
     tokens: &mut Scanner,
 ) -> Result<Statement, ConfigFault>
-    ensures read { Gives (λ s. (s, tokens.new)) result (statements.behind_keyword in_class line keyword tokens.old) }
+    ensures read { Gives (λ s. (s, tokens.new)) result (statements.behind_keyword standard in_class line keyword tokens.old) }
     ensures shorter { OnOk result (length tokens.new.tokens < length tokens.old.tokens) }
 {
     match keyword {
@@ -206,6 +228,12 @@ fn behind_keyword(
         Keyword::Flag => flag(tokens),
         Keyword::Queue => queue(tokens),
         Keyword::SpinLock => spin_lock(tokens),
+        Keyword::Mutex => {
+            if !standard {
+                return Err(ConfigFault::Syntax { line });
+            }
+            mutex(tokens)
+        }
         Keyword::Handler => handler(alloc, tokens),
     }
 }
@@ -213,13 +241,14 @@ fn behind_keyword(
 /// Takes the rest of the statement that begins with this token.
 pub(crate) fn statement(
     alloc: Global,
+    standard: bool,
     in_class: bool,
     token: Token,
     line: usize,
     tokens: &mut Scanner,
 ) -> Result<Statement, ConfigFault>
     ensures read { Gives (λ s. (s, tokens.new)) result
-        (statements.statement_by in_class (seen token.entry) line tokens.old) }
+        (statements.statement_by standard in_class (seen token.entry) line tokens.old) }
     ensures shorter { OnOk result (length tokens.new.tokens ≤ length tokens.old.tokens) }
 {
     match token {
@@ -227,7 +256,7 @@ pub(crate) fn statement(
             let Some(keyword) = keyword_of(run) else {
                 return Err(ConfigFault::Syntax { line });
             };
-            behind_keyword(alloc, in_class, line, keyword, tokens)
+            behind_keyword(alloc, standard, in_class, line, keyword, tokens)
         }
         Token::Mark(b'}') if in_class => Ok(Statement::ClassEnd),
         _ => Err(ConfigFault::Syntax { line }),
