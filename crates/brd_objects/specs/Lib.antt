@@ -1,6 +1,7 @@
 pub mod Table
 pub mod QueueOrder
 pub mod Semaphores
+pub mod Mutexes
 pub mod Waiters
 pub mod Flags
 pub mod Columns
