@@ -1,0 +1,2 @@
+pub mod LiftingLemmas
+pub mod PassLemmas
