@@ -48,6 +48,7 @@ unstarted setup = record {
   setup = setup;
   status = Dormant;
   priority = setup.priority;
+  base = setup.priority;
   cpu = setup.cpu;
   activation = None;
   wakeup = false;
@@ -63,6 +64,7 @@ started cpu task = record {
   setup = task.setup;
   status = Ready;
   priority = task.setup.priority;
+  base = task.setup.priority;
   cpu = cpu;
   activation = None;
   wakeup = false;
@@ -175,7 +177,11 @@ abbrev pub changed : (Task → Task) → TaskTable → ℕ → TaskTable
 changed change t id = where_there t (task_at t id) (λ task. placed t id (change task))
 
 abbrev pub with_priority : ℕ → Task → Task
-with_priority priority task = record task { priority = priority }
+with_priority priority task = record task { priority = priority; base = priority }
+
+-- it is lifted to a priority, or comes down to its own
+abbrev pub lifted_to : ℕ → Task → Task
+lifted_to priority task = record task { priority = priority }
 
 abbrev pub on_processor : ℕ → Task → Task
 on_processor cpu task = record task { cpu = cpu }

@@ -42,6 +42,8 @@ pub struct Task {
     pub status: Status,
     /// Its present priority.
     pub priority: u8,
+    /// Its priority where nothing lifts it.
+    pub base: u8,
     /// The processor that it is assigned to.
     pub cpu: u8,
     /// The request that is queued, if one is: it is met when the task ends.
@@ -67,6 +69,7 @@ impl Same for Task {
         self.setup.same(&other.setup)
             && self.status.same(&other.status)
             && self.priority == other.priority
+            && self.base == other.base
             && self.cpu == other.cpu
             && self.activation.same(&other.activation)
             && self.wakeup == other.wakeup
@@ -103,6 +106,7 @@ impl TaskSetup {
             setup: self,
             status: Status::Dormant,
             priority: self.priority,
+            base: self.priority,
             cpu: self.cpu,
             activation: None,
             wakeup: false,
@@ -126,6 +130,7 @@ impl Task {
             setup: self.setup,
             status: Status::Ready,
             priority: self.setup.priority,
+            base: self.setup.priority,
             cpu,
             activation: None,
             wakeup: false,

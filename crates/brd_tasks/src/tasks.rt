@@ -16,6 +16,7 @@ ghost use Rattle.brd_tasks.specs.Tasks.{
   released_with,
   changed,
   with_priority,
+  lifted_to,
   on_processor,
   noted,
   with_wakeup,
@@ -246,6 +247,24 @@ impl Tasks {
     /// already.
     pub fn set_priority(&mut self, id: TaskId, priority: u8)
         ensures is { self.new ≡ changed (with_priority priority) self.old id }
+        ensures there { are_there self.new ≡ are_there self.old }
+    {
+        let Some(task) = self.task(id) else { return };
+        let base = priority;
+        self.place(
+            id,
+            Task {
+                priority,
+                base,
+                ..task
+            },
+        );
+    }
+
+    /// Gives a task another priority, and leaves its own as it is. One that is ready comes after its equals, also where
+    /// it has that priority already.
+    pub fn lift(&mut self, id: TaskId, priority: u8)
+        ensures is { self.new ≡ changed (lifted_to priority) self.old id }
         ensures there { are_there self.new ≡ are_there self.old }
     {
         let Some(task) = self.task(id) else { return };
