@@ -155,7 +155,8 @@ begins own holders = record {
 }
 
 pub pass_founded : (own : List ℕ) (holders : List (Option ℕ)) (ps : List ℕ) → AreFounded own holders ps → AreFounded own holders (passed 0 holders ps)
-pass_founded own holders ps was = founded own holders 0 holders ps (λ j. refl) was
+pass_founded own holders ps was =
+    founded own holders 0 holders ps (λ j. let same : j ≡ 0 + j = omega arith in ap (holder_of holders) same) was
 
 pub ends : (own : List ℕ) (holders : List (Option ℕ)) (ps : List ℕ) → AreFounded own holders ps → lifts 0 holders ps ≡ false →
     AreLifted own holders (passed 0 holders ps)
