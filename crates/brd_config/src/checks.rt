@@ -267,7 +267,12 @@ pub(crate) fn mutex(
     }
     let number = within(statement.protocol, 0, 3, ConfigFault::BadAttribute { line })?;
     let least = least_ceiling(meant_protocol(statement.protocol));
-    let ceiling = within(statement.ceiling, least, 16, ConfigFault::BadPriority { line })?;
+    let ceiling = within(
+        statement.ceiling,
+        least,
+        16,
+        ConfigFault::BadPriority { line },
+    )?;
     Ok(MutexConfig {
         id: id as u16,
         protocol: meant_protocol(number),

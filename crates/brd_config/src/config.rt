@@ -3,7 +3,8 @@
 ghost use Rattle.brd_config.specs.Configuration.{IsConfiguration};
 
 use crate::objects::{
-    FlagConfig, HandlerConfig, MutexConfig, QueueConfig, SemaphoreConfig, SpinLockConfig, TaskConfig,
+    FlagConfig, HandlerConfig, MutexConfig, QueueConfig, SemaphoreConfig, SpinLockConfig,
+    TaskConfig,
 };
 use brd_base::List;
 

@@ -1,7 +1,8 @@
 //! What the statements so far have said.
 
 use crate::objects::{
-    FlagConfig, HandlerConfig, MutexConfig, QueueConfig, SemaphoreConfig, SpinLockConfig, TaskConfig,
+    FlagConfig, HandlerConfig, MutexConfig, QueueConfig, SemaphoreConfig, SpinLockConfig,
+    TaskConfig,
 };
 use brd_base::List;
 

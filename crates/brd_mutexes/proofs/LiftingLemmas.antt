@@ -16,5 +16,10 @@ pub once : (own one other : List ℕ) (holders : List (Option ℕ)) → AreLifte
 once own one other holders first second id =
     let of_one = first.founded.founded id in
     let of_other = second.founded.founded id in
-    omega (arith, of_one.same, of_other.same, below own other holders of_one.from id second of_one.leads,
-    below own one holders of_other.from id first of_other.leads)
+    omega (
+      arith,
+      of_one.same,
+      of_other.same,
+      below own other holders of_one.from id second of_one.leads,
+      below own one holders of_other.from id first of_other.leads,
+    )

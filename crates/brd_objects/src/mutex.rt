@@ -77,7 +77,8 @@ impl Object for Mutex {
     }
 
     fn reorder(&mut self, task: u16, priority: u8) {
-        self.waiters.reorder(order_of(self.protocol), task, priority);
+        self.waiters
+            .reorder(order_of(self.protocol), task, priority);
     }
 
     fn save(&self) -> Result<SavedMutex, NoMemory> {
