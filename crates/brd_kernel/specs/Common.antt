@@ -3,6 +3,7 @@
 use Rattle.std.specs.Prelude.{◌≡◌, false, map}
 use Rattle.brd_objects.specs.declared.semaphore.Semaphore.{Semaphore}
 use Rattle.brd_objects.specs.declared.flag.Flag.{Flag}
+use Rattle.brd_objects.specs.declared.mutex.Mutex.{Mutex}
 use Rattle.brd_objects.specs.Table.{Table}
 use Rattle.brd_objects.specs.DataQueues.{DataQueueState}
 use Rattle.brd_kernel.specs.declared.common.Common.{Common}
@@ -10,8 +11,8 @@ use Rattle.brd_kernel.specs.Kernel.{KernelState}
 use Rattle.brd_kernel.specs.Always.{IsKernel, AreQuiet, task_executing}
 
 -- the kernel, with these objects
-abbrev pub kernel_of : Common → Table Semaphore → Table Flag → Table DataQueueState → KernelState
-kernel_of c semaphores flags queues = record {
+abbrev pub kernel_of : Common → Table Semaphore → Table Flag → Table DataQueueState → Table Mutex → KernelState
+kernel_of c semaphores flags queues mutexes = record {
   off = c.off;
   standard = c.standard;
   clock = c.clock;
@@ -20,6 +21,7 @@ kernel_of c semaphores flags queues = record {
   semaphores = semaphores;
   flags = flags;
   queues = queues;
+  mutexes = mutexes;
   spin_locks = c.spin_locks.items;
   processors = c.processors;
   handler_contexts = c.handler_contexts.items;
@@ -35,7 +37,8 @@ pub record IsCommon (c : Common) (k : KernelState) : Type 0 where
 
 -- a copy makes the same kernel, whatever its objects, and has the same beside it
 pub record IsCopy (c copy : Common) : Type 0 where
-  pub same : (semaphores : Table Semaphore) (flags : Table Flag) (queues : Table DataQueueState) →
-      kernel_of copy semaphores flags queues ≡ kernel_of c semaphores flags queues
+  pub same : (semaphores : Table Semaphore) (flags : Table Flag) (queues : Table DataQueueState)
+      (mutexes : Table Mutex) →
+      kernel_of copy semaphores flags queues mutexes ≡ kernel_of c semaphores flags queues mutexes
   pub pending : copy.pending ≡ c.pending
   pub executing : copy.executing ≡ c.executing

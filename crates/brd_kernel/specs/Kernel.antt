@@ -7,6 +7,7 @@ use Rattle.brd_tasks.specs.Tasks.{TaskTable, no_context, context_at, with_contex
 use Rattle.brd_time.specs.Time.{Time}
 use Rattle.brd_objects.specs.declared.semaphore.Semaphore.{Semaphore}
 use Rattle.brd_objects.specs.declared.flag.Flag.{Flag}
+use Rattle.brd_objects.specs.declared.mutex.Mutex.{Mutex}
 use Rattle.brd_objects.specs.Table.{Table}
 use Rattle.brd_objects.specs.DataQueues.{DataQueueState}
 use Rattle.brd_kernel.specs.declared.processor.Processor.{Processor}
@@ -26,9 +27,10 @@ pub record KernelState : Type 0 where
   pub clock : ℕ  -- what the system time was before the first tick; it goes on with the ticks, modulo 2^32
   pub time : Time  -- the ticks so far, and when waits end
   pub tasks : TaskTable
-  pub semaphores : Table Semaphore  -- by ID, 256 of them, as the two below
+  pub semaphores : Table Semaphore  -- by ID, 256 of them, as the three below
   pub flags : Table Flag
   pub queues : Table DataQueueState
+  pub mutexes : Table Mutex
   pub spin_locks : List Bool  -- by ID, 256 of them: whether there is one; who holds it, its processor says
   pub processors : List (Option Processor)  -- by number, 9 of them: None at 0 and where the board has no such processor
   -- by the processor's number, 9 of them: the context of the handler that runs there; any, where none runs

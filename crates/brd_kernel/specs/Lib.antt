@@ -19,3 +19,6 @@ pub use Rattle.brd_objects.specs.Table
 pub use Rattle.brd_objects.specs.Semaphores
 pub use Rattle.brd_objects.specs.Flags
 pub use Rattle.brd_objects.specs.DataQueues
+pub use Rattle.brd_objects.specs.Mutexes
+pub use Rattle.brd_mutexes.specs.Lifting
+pub use Rattle.brd_mutexes.specs.Passes

@@ -9,10 +9,12 @@ use Rattle.brd_config.specs.declared.objects.SemaphoreConfig.{SemaphoreConfig}
 use Rattle.brd_config.specs.declared.objects.FlagConfig.{FlagConfig}
 use Rattle.brd_config.specs.declared.objects.QueueConfig.{QueueConfig}
 use Rattle.brd_config.specs.declared.objects.SpinLockConfig.{SpinLockConfig}
+use Rattle.brd_config.specs.declared.objects.MutexConfig.{MutexConfig}
 use Rattle.brd_time.specs.Time.{beginning}
 use Rattle.brd_objects.specs.Semaphores.{made_semaphores}
 use Rattle.brd_objects.specs.Flags.{made_flags}
 use Rattle.brd_objects.specs.DataQueues.{made_queues}
+use Rattle.brd_objects.specs.Mutexes.{made_mutexes}
 use Rattle.brd_kernel.specs.declared.processor.Processor.{Processor}
 use Rattle.brd_kernel.specs.declared.processor.Handler.{Handler}
 use Rattle.brd_kernel.specs.declared.processor.InterruptLine.{InterruptLine}
@@ -48,8 +50,8 @@ unfoldable pub made_spin_locks : List SpinLockConfig → ℕ → List Bool
 made_spin_locks configs count = map (is_configured configs) (range_with_len 0 count)
 
 abbrev pub made_kernel : Bool → ℕ → List TaskSetup → List LineSetup → List SemaphoreConfig → List FlagConfig →
-    List QueueConfig → List SpinLockConfig → KernelState
-made_kernel standard processors setups lines semaphores flags queues spin_locks = record {
+    List QueueConfig → List SpinLockConfig → List MutexConfig → KernelState
+made_kernel standard processors setups lines semaphores flags queues spin_locks mutexes = record {
   off = false;
   standard = standard;
   clock = 0;
@@ -58,6 +60,7 @@ made_kernel standard processors setups lines semaphores flags queues spin_locks 
   semaphores = made_semaphores semaphores;
   flags = made_flags flags;
   queues = made_queues queues;
+  mutexes = made_mutexes mutexes;
   spin_locks = made_spin_locks spin_locks 256;
   processors = idle_ones processors 9;
   handler_contexts = replicate 9 no_context;

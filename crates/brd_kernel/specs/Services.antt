@@ -4,9 +4,10 @@
 -- no other number without it. A row begins with the object that the call names and refuses nothing but an
 -- ID that is none (E_ID, E_NOEXS); what it fills in is what its line of the table says. T is a task's ID, T0 may be 0
 -- for the caller, L is a spin lock's.
-use Rattle.std.specs.Prelude.{ℕ, ◌+◌, ◌%◌, ◌^◌, ◌-◌, ◌==◌, nat_lt, nat_le, Bool, true, false, not, ◌&&◌, ◌||◌, if◌then◌else◌}
+use Rattle.std.specs.Prelude.{ℕ, zero, suc, ◌+◌, ◌%◌, ◌^◌, ◌-◌, ◌==◌, nat_lt, nat_le, Bool, true, false, not, ◌&&◌, ◌||◌, if◌then◌else◌}
 use Rattle.std.specs.Prelude.{List, [], ◌∷◌, ◌++◌, length, slice_index, slice_set, Option, None, Some, is_some, unwrap_or, Result}
-use Rattle.std.specs.Prelude.{Err}
+use Rattle.std.specs.Prelude.{Ok, Err}
+use Rattle.brd_queue.specs.Queue.{has}
 use Rattle.brd_tasks.specs.declared.status.Status.{Status}
 use Rattle.brd_tasks.specs.declared.status.Status.TheVariants as status
 use Rattle.brd_tasks.specs.declared.status.WaitReason.{WaitReason}
@@ -19,7 +20,10 @@ use Rattle.brd_tasks.specs.Status.{waiting_of, is_dormant, is_waiting, is_suspen
 use Rattle.brd_tasks.specs.Tasks.{task_at, activated, through, changed, with_priority, on_processor, noted, with_wakeup}
 use Rattle.brd_tasks.specs.Tasks.{without_activation, turned, activations_of, wakeups_of, no_context}
 use Rattle.brd_objects.specs.declared.semaphore.Semaphore.{Semaphore}
+use Rattle.brd_config.specs.declared.objects.Protocol.{Protocol}
+use Rattle.brd_config.specs.declared.objects.Protocol.TheVariants as protocol
 use Rattle.brd_objects.specs.declared.flag.Flag.{Flag}
+use Rattle.brd_objects.specs.declared.mutex.Mutex.{Mutex}
 use Rattle.brd_objects.specs.declared.want.Mode.{Mode}
 use Rattle.brd_objects.specs.declared.want.Mode.TheVariants.{All, Any}
 use Rattle.brd_objects.specs.declared.want.Want.{Want}
@@ -33,9 +37,10 @@ use Rattle.brd_objects.specs.Flags.{with_all_released}
 use Rattle.brd_objects.specs.Waiters.{first_in}
 use Rattle.brd_objects.specs.DataQueues.{DataQueueState, sent, outcome, forced, forced_outcome, received, receipt}
 use Rattle.brd_objects.specs.DataQueues.{awaited_by_sender, awaited_by_receiver}
+use Rattle.brd_objects.specs.Mutexes.{is_owned_by, owned, next_owner, mutex_awaited}
 use Rattle.brd_time.specs.Time.{due_of}
 use Rattle.brd_kernel.specs.Waits.{forever, is_bad_timeout, due_after, due_by, priority_of, with_wait, released_in, broken_off}
-use Rattle.brd_kernel.specs.Waits.{ended_in, reordered_in}
+use Rattle.brd_kernel.specs.Waits.{reordered_in, with_released, given_in, quits_in, base_in, prioritized}
 use Rattle.brd_kernel.specs.declared.processor.Processor.{Processor}
 use Rattle.brd_kernel.specs.declared.processor.Spin.{Spin}
 use Rattle.brd_kernel.specs.declared.processor.Spin.TheVariants.{Free, Held}
@@ -45,6 +50,8 @@ use Rattle.brd_kernel.specs.declared.call.Sensed.{Sensed}
 use Rattle.brd_kernel.specs.declared.call.Sensed.TheVariants as sense
 use Rattle.brd_kernel.specs.declared.call.Ercd.{Ercd}
 use Rattle.brd_kernel.specs.declared.call.Ercd.TheVariants.{Rlwai, Tmout}
+use Rattle.brd_kernel.specs.declared.call.Reply.{Reply}
+use Rattle.brd_kernel.specs.declared.call.Reply.TheVariants.{Answer, Silent, Again}
 use Rattle.brd_kernel.specs.Answer.{e_ok, code_of}
 use Rattle.brd_kernel.specs.Kernel.{KernelState, processor_at, is_held, running_on, with_tasks, with_processor}
 use Rattle.brd_kernel.specs.Kernel.{unmarked, holding, letting_go, holds, spin_of}
@@ -89,6 +96,9 @@ on_flag k id = on_object k id (object_at k.flags id)
 
 abbrev pub on_queue : KernelState → ℕ → Row DataQueueState
 on_queue k id = on_object k id (object_at k.queues id)
+
+abbrev pub on_mutex : KernelState → ℕ → Row Mutex
+on_mutex k id = on_object k id (object_at k.mutexes id)
 
 abbrev pub on_spin_lock : KernelState → ℕ → Row Spin
 on_spin_lock k id = on_object k id (spin_of k id)
@@ -196,12 +206,13 @@ abbrev pub state_word : Bool → Status → ℕ
 state_word true status = 1
 state_word false status = status_word status
 
--- TTW_SEM, TTW_FLG, TTW_SDTQ, TTW_RDTQ
+-- TTW_SEM, TTW_FLG, TTW_SDTQ, TTW_RDTQ, TTW_MTX
 abbrev pub kind_word : WaitKind → ℕ
 kind_word kind.Semaphore = 4
 kind_word kind.Flag = 8
 kind_word kind.Room = 16
 kind_word kind.Datum = 32
+kind_word kind.Mutex = 128
 
 -- TTW_SLP, TTW_DLY, and those; 0 where it doesn't wait
 abbrev pub wait_word : Option WaitReason → ℕ
@@ -231,7 +242,7 @@ left_word count due true = ticks_left count due
 -- T_RTSK: tskstat, tskpri, tskbpri, tskwait, wobjid, lefttmo, actcnt, wupcnt, suscnt
 abbrev pub task_words : KernelState → ℕ → Task → List ℕ
 task_words k id task =
-    state_word (is_same_task (running_on k task.cpu) (Some id)) task.status ∷ task.priority ∷ task.priority
+    state_word (is_same_task (running_on k task.cpu) (Some id)) task.status ∷ task.priority ∷ task.base
     ∷ wait_word (waiting_of task.status) ∷ object_word (waiting_of task.status)
     ∷ left_word k.time.count (due_of k.time id) (is_waiting task.status) ∷ activations_of task.activation
     ∷ wakeups_of task.wakeup ∷ bit_word (is_suspended task.status) ∷ []
@@ -252,6 +263,10 @@ flag_words f = id_or_none (first_in f.waiters) ∷ f.pattern ∷ []
 abbrev pub queue_words : DataQueueState → List ℕ
 queue_words q = id_or_none (first_in q.senders) ∷ id_or_none (first_in q.receivers) ∷ length q.stored ∷ []
 
+-- T_RMTX: htskid, wtskid
+abbrev pub mutex_words : Mutex → List ℕ
+mutex_words m = id_or_none m.owner ∷ id_or_none (next_owner m) ∷ []
+
 -- Effects that several calls share.
 
 -- the caller waits, or where it polls is answered E_TMOUT; `entered` is the kernel in which it stands in the list of
@@ -263,11 +278,6 @@ or_waits k caller why timeout entered =
 -- the priority of the caller
 abbrev pub callers_priority : KernelState → ℕ → ℕ
 callers_priority k caller = priority_of (task_at k.tasks caller)
-
--- a task, if it is one, is released with E_OK
-abbrev pub with_released : KernelState → Option ℕ → KernelState
-with_released k None = k
-with_released k (Some id) = released_in k id e_ok None
 
 -- tasks are released with E_OK and a second result, one after the other
 abbrev pub with_all_released_in : KernelState → List ℕ → ℕ → KernelState
@@ -310,19 +320,19 @@ abbrev pub unmarked_on : KernelState → ℕ → Option Processor → KernelStat
 unmarked_on k cpu None = k
 unmarked_on k cpu (Some p) = with_processor k cpu (unmarked p)
 
--- 3 ext_tsk. Ends the caller, which leaves its processor neither CPU-locked nor with dispatching disabled, and any spin
+-- 3 ext_tsk. Ends the caller, which gives its mutexes back and leaves its processor neither CPU-locked nor with dispatching disabled, and any spin
 -- lock free that it holds.
 abbrev pub ext_tsk : KernelState → ℕ → ℕ → Row Task
 ext_tsk k cpu caller = record (on_caller k caller) {
-  does = λ task. silent (unmarked_on (ended_in k caller) cpu (processor_at k cpu));
+  does = λ task. silent (unmarked_on (quits_in k caller) cpu (processor_at k cpu));
 }
 
--- 4 ter_tsk T. Refuses: ILUSE oneself; OBJ dormant or held elsewhere.
+-- 4 ter_tsk T. Refuses: ILUSE oneself; OBJ dormant or held elsewhere. Ends the task, which gives its mutexes back.
 abbrev pub ter_tsk : KernelState → ℕ → ℕ → ℕ → Row Task
 ter_tsk k cpu caller id = record (on_task k id) {
   iluse = λ task. id == caller;
   obj = λ task. is_dormant task.status || is_held_elsewhere k cpu id task;
-  does = λ task. ok (ended_in k id);
+  does = λ task. ok (quits_in k id);
 }
 
 -- a task is given a priority, and its place by it where it is ready or waits
@@ -330,10 +340,34 @@ abbrev pub with_priority_in : KernelState → ℕ → ℕ → Option WaitReason 
 with_priority_in k id priority why =
     reordered_in (with_tasks k (changed (with_priority priority) k.tasks id)) id priority why
 
--- 5 chg_pri T0, priority. Refuses: PAR not 0 to 16; OBJ dormant.
+-- a priority is higher than the ceiling of a mutex, if that has an effect
+abbrev pub is_over : Protocol → ℕ → ℕ → Bool
+is_over protocol.Ceiling ceiling priority = nat_lt priority ceiling
+is_over protocol.Arrival ceiling priority = false
+is_over protocol.Priority ceiling priority = false
+is_over protocol.Inherit ceiling priority = false
+
+-- it is, and a task has the mutex or waits for it
+abbrev pub is_over_in : ℕ → ℕ → Option Mutex → Bool
+is_over_in id priority None = false
+is_over_in id priority (Some m) = is_over m.protocol m.ceiling priority && (is_owned_by id m || has id m.waiters)
+
+-- one of the mutexes with IDs below a number is such
+unfoldable pub is_over_below : KernelState → ℕ → ℕ → ℕ → Bool
+is_over_below k id priority zero = false
+is_over_below k id priority (suc at) =
+    is_over_below k id priority at || is_over_in id priority (object_at k.mutexes at)
+
+-- a priority that a task can't have for its ceilings
+abbrev pub is_over_ceiling : KernelState → ℕ → ℕ → Bool
+is_over_ceiling k id priority = k.standard && is_over_below k id priority 256
+
+-- 5 chg_pri T0, priority. Refuses: PAR not 0 to 16; ILUSE it has, or waits for, a mutex with TA_CEILING of which the
+-- ceiling is lower; OBJ dormant. The base priority is this from then on.
 abbrev pub chg_pri : KernelState → ℕ → ℕ → Row Task
 chg_pri k id priority = record (on_task k id) {
   bad_par = nat_lt 16 priority;
+  iluse = λ task. is_over_ceiling k id (priority_or_initial priority task);
   obj = λ task. is_dormant task.status;
   does = λ task. ok (with_priority_in k id (priority_or_initial priority task) (waiting_of task.status));
 }
@@ -652,6 +686,31 @@ ref_dtq k id word = record (on_queue k id) {
   does = λ q. ok_with k (slice_index (queue_words q) word);
 }
 
+-- 77 loc_mtx M, 78 ploc_mtx M, 79 tloc_mtx M, timeout. Refuses: PAR; ILUSE the caller has it, or has a base priority
+-- that is higher than its ceiling. Takes it, or waits.
+abbrev pub tloc_mtx : KernelState → ℕ → ℕ → ℕ → Row Mutex
+tloc_mtx k caller id timeout = record (on_mutex k id) {
+  bad_par = is_bad_timeout timeout;
+  iluse = λ m. is_owned_by caller m || is_over m.protocol m.ceiling (base_in (task_at k.tasks caller));
+  does = λ m.
+      if is_some m.owner
+      then or_waits k caller (reason.On kind.Mutex id) timeout
+      (record k { mutexes = object_changed (mutex_awaited caller (callers_priority k caller)) k.mutexes id })
+      else ok (record k { mutexes = object_changed (owned caller) k.mutexes id });
+}
+
+-- 80 unl_mtx M. Refuses: ILUSE the caller hasn't it. Gives it back.
+abbrev pub unl_mtx : KernelState → ℕ → ℕ → Row Mutex
+unl_mtx k caller id =
+    record (on_mutex k id) { iluse = λ m. not (is_owned_by caller m); does = λ m. ok (given_in k id) }
+
+-- 81 ref_mtx M, word. Refuses: PAR above 1. Second result: that word of T_RMTX.
+abbrev pub ref_mtx : KernelState → ℕ → ℕ → Row Mutex
+ref_mtx k id word = record (on_mutex k id) {
+  bad_par = nat_lt 1 word;
+  does = λ m. ok_with k (slice_index (mutex_words m) word);
+}
+
 -- The rows by calls.
 
 abbrev pub serve_by : KernelState → ℕ → ℕ → Call → Result Served Ercd
@@ -704,14 +763,28 @@ serve_by k cpu caller (call.RefTsk t word) = served (ref_tsk k (named caller t) 
 serve_by k cpu caller (call.RefSem s word) = served (ref_sem k s word)
 serve_by k cpu caller (call.RefFlg f word) = served (ref_flg k f word)
 serve_by k cpu caller (call.RefDtq q word) = served (ref_dtq k q word)
+serve_by k cpu caller (call.TlocMtx m timeout) = served (tloc_mtx k caller m timeout)
+serve_by k cpu caller (call.UnlMtx m) = served (unl_mtx k caller m)
+serve_by k cpu caller (call.RefMtx m word) = served (ref_mtx k m word)
 
 -- the number of the running task of a processor; 0 where none runs
 abbrev pub caller_on : KernelState → ℕ → ℕ
 caller_on k cpu = unwrap_or (running_on k cpu) 0
 
+-- After a call that is done each task has the current priority that it is to have.
+
+abbrev pub prioritized_after : KernelState → Reply → KernelState
+prioritized_after k (Answer code second) = prioritized k
+prioritized_after k Silent = prioritized k
+prioritized_after k Again = k
+
+abbrev pub with_priorities : Result Served Ercd → Result Served Ercd
+with_priorities (Ok done) = Ok (record { kernel = prioritized_after done.kernel done.reply; reply = done.reply })
+with_priorities (Err code) = Err code
+
 -- a call that comes from a processor
 abbrev pub serve_of : KernelState → ℕ → Call → Served
-serve_of k cpu call = or_refused k (serve_by k cpu (caller_on k cpu) call)
+serve_of k cpu call = or_refused k (with_priorities (serve_by k cpu (caller_on k cpu) call))
 
 -- A call that is to be made again: loc_spn of a spin lock that is held. The gate asks this before the caller goes on.
 

@@ -1,5 +1,5 @@
--- What holds of waits after every event. A task that waits for a semaphore, for bits of an event flag, or to send to or
--- receive from a data queue stands in the waiting list for just that, once and with its priority, and in no other
+-- What holds of waits after every event. A task that waits for a semaphore, for bits of an event flag, for a mutex, or
+-- to send to or receive from a data queue stands in the waiting list for just that, once and with its priority, and in no other
 -- waiting list of an object; where that list is in the order of priority, no task stands in front of one with a higher
 -- priority; no task waits for something that it could have at once; and only a task that waits has a due tick.
 use Rattle.std.specs.Prelude.{◌≡◌, ℕ, Bool, true, false, List, [], map, Option, None, Some, IfSome, is_some, length}
@@ -19,10 +19,12 @@ use Rattle.brd_tasks.specs.Tasks.{task_at}
 use Rattle.brd_time.specs.Time.{due_of}
 use Rattle.brd_objects.specs.declared.semaphore.Semaphore.{Semaphore}
 use Rattle.brd_objects.specs.declared.flag.Flag.{Flag}
+use Rattle.brd_objects.specs.declared.mutex.Mutex.{Mutex}
 use Rattle.brd_objects.specs.Table.{object_at}
 use Rattle.brd_objects.specs.Semaphores.{has_one}
 use Rattle.brd_objects.specs.Waiters.{satisfies, WantBits}
 use Rattle.brd_objects.specs.DataQueues.{DataQueueState, has_room}
+use Rattle.brd_objects.specs.Mutexes.{protocol_order}
 use Rattle.brd_kernel.specs.Kernel.{KernelState}
 use Rattle.brd_kernel.specs.Waits.{reason_of}
 use Rattle.brd_kernel.specs.Services.{is_asleep}
@@ -47,12 +49,17 @@ abbrev pub receivers : Option DataQueueState → List Plain
 receivers None = []
 receivers (Some q) = q.receivers
 
+abbrev pub mutex_waiters : Option Mutex → List Plain
+mutex_waiters None = []
+mutex_waiters (Some m) = m.waiters
+
 -- the list of those who wait for an object
 abbrev pub waiters_of : KernelState → WaitKind → ℕ → List Plain
 waiters_of k kind.Semaphore object = semaphore_waiters (object_at k.semaphores object)
 waiters_of k kind.Flag object = flag_waiters (object_at k.flags object)
 waiters_of k kind.Room object = senders (object_at k.queues object)
 waiters_of k kind.Datum object = receivers (object_at k.queues object)
+waiters_of k kind.Mutex object = mutex_waiters (object_at k.mutexes object)
 
 -- the list of those who wait for something: a sleep and a delay have none
 abbrev pub standing_for : KernelState → WaitReason → List Plain
@@ -99,12 +106,18 @@ pub record QueueIsKept (q : DataQueueState) : Type 0 where
   -- while a task waits to receive, nothing is stored, and no task waits to send
   pub datum : is_empty q.receivers ≡ false → (q.stored ≡ []) × (q.senders ≡ [])
 
+pub record MutexIsKept (m : Mutex) : Type 0 where
+  pub ordered : AreInOrder (protocol_order m.protocol) m.waiters
+  -- while nobody has it, no task waits
+  pub lacking : m.owner ≡ None → m.waiters ≡ []
+
 -- Each task is so, and each object.
 pub record EachIsKept (k : KernelState) : Type 0 where
   pub sleepers : (id : ℕ) → IfSome (task_at k.tasks id) (λ task. SleeperIsKept task)
   pub semaphores : (id : ℕ) → IfSome (object_at k.semaphores id) (λ s. SemaphoreIsKept s)
   pub flags : (id : ℕ) → IfSome (object_at k.flags id) (λ f. FlagIsKept f)
   pub queues : (id : ℕ) → IfSome (object_at k.queues id) (λ q. QueueIsKept q)
+  pub mutexes : (id : ℕ) → IfSome (object_at k.mutexes id) (λ m. MutexIsKept m)
 
 pub record WaitsAreKept (k : KernelState) : Type 0 where
   -- each ID from 0 to 255 has a row and a due tick, or None

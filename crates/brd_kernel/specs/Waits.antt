@@ -1,7 +1,7 @@
 -- Waits: how they begin, and how they end. What a task waits for stands in its status; it stands in the list of waiters
 -- of that object, and it has a due tick where its wait has an end.
-use Rattle.std.specs.Prelude.{ℕ, ◌+◌, ◌-◌, ◌^◌, ◌==◌, nat_le, nat_lt, Bool, true, false, not, ◌&&◌, if◌then◌else◌, List}
-use Rattle.std.specs.Prelude.{[], ◌∷◌, Option, None, Some, is_some}
+use Rattle.std.specs.Prelude.{ℕ, zero, suc, ◌+◌, ◌-◌, ◌^◌, ◌==◌, nat_le, nat_lt, Bool, true, false, not, ◌&&◌, if◌then◌else◌, List}
+use Rattle.std.specs.Prelude.{[], ◌∷◌, Option, None, Some, is_some, replicate, slice_set}
 use Rattle.std.specs.Option.{option_map}
 use Rattle.brd_tasks.specs.declared.status.WaitReason.{WaitReason}
 use Rattle.brd_tasks.specs.declared.status.WaitReason.TheVariants as reason
@@ -10,14 +10,21 @@ use Rattle.brd_tasks.specs.declared.status.WaitKind.TheVariants as kind
 use Rattle.brd_tasks.specs.declared.task.Task.{Task}
 use Rattle.brd_tasks.specs.declared.task.TaskView.{TaskView}
 use Rattle.brd_tasks.specs.Status.{waiting_of, is_ready, blocked}
-use Rattle.brd_tasks.specs.Tasks.{task_at, through, released_with, ended, noted, without_activation, view_of}
+use Rattle.brd_tasks.specs.Tasks.{TaskTable, task_at, through, released_with, ended, changed, lifted_to, noted, without_activation}
+use Rattle.brd_tasks.specs.Tasks.{view_of}
 use Rattle.brd_time.specs.Time.{Time, due_of, with_due, last_count, advanced, due_from}
 use Rattle.brd_objects.specs.declared.semaphore.Semaphore.{Semaphore}
+use Rattle.brd_config.specs.declared.objects.Protocol.{Protocol}
+use Rattle.brd_config.specs.declared.objects.Protocol.TheVariants as protocol
+use Rattle.brd_mutexes.specs.Lifting.{priority_at}
+use Rattle.brd_mutexes.specs.Passes.{lifted}
 use Rattle.brd_objects.specs.declared.flag.Flag.{Flag}
-use Rattle.brd_objects.specs.Table.{objects_changed}
+use Rattle.brd_objects.specs.declared.mutex.Mutex.{Mutex}
+use Rattle.brd_objects.specs.Table.{object_at, object_changed, objects_changed}
 use Rattle.brd_objects.specs.Semaphores.{semaphore_left, semaphore_reordered}
 use Rattle.brd_objects.specs.Flags.{flag_left, flag_reordered}
 use Rattle.brd_objects.specs.DataQueues.{DataQueueState, data_queue_left, data_queue_reordered}
+use Rattle.brd_objects.specs.Mutexes.{is_owned_by, given, next_owner_in, mutex_left, mutex_reordered}
 use Rattle.brd_kernel.specs.declared.processor.Processor.{Processor}
 use Rattle.brd_kernel.specs.declared.call.Ercd.TheVariants.{Tmout}
 use Rattle.brd_kernel.specs.Answer.{e_ok, code_of}
@@ -77,12 +84,14 @@ pub record Change : Type 0 where
   pub semaphore : Semaphore → Semaphore
   pub flag : Flag → Flag
   pub queue : DataQueueState → DataQueueState
+  pub mutex : Mutex → Mutex
 
 abbrev pub changed_of : Change → KernelState → WaitKind → KernelState
 changed_of change k kind.Semaphore = record k { semaphores = objects_changed change.semaphore k.semaphores }
 changed_of change k kind.Flag = record k { flags = objects_changed change.flag k.flags }
 changed_of change k kind.Room = record k { queues = objects_changed change.queue k.queues }
 changed_of change k kind.Datum = record k { queues = objects_changed change.queue k.queues }
+changed_of change k kind.Mutex = record k { mutexes = objects_changed change.mutex k.mutexes }
 
 -- a sleep and a delay have no list
 abbrev pub changed_for : Change → KernelState → Option WaitReason → KernelState
@@ -94,7 +103,8 @@ changed_for change k (Some (reason.On what object)) = changed_of change k what
 -- a task leaves the list of what it waits for
 
 abbrev pub leaving : ℕ → Change
-leaving id = record { semaphore = semaphore_left id; flag = flag_left id; queue = data_queue_left id }
+leaving id =
+    record { semaphore = semaphore_left id; flag = flag_left id; queue = data_queue_left id; mutex = mutex_left id }
 
 abbrev pub unlisted_from : KernelState → ℕ → Option WaitReason → KernelState
 unlisted_from k id why = changed_for (leaving id) k why
@@ -119,10 +129,133 @@ moving id priority =
       semaphore = semaphore_reordered id priority;
       flag = flag_reordered id priority;
       queue = data_queue_reordered id priority;
+      mutex = mutex_reordered id priority;
     }
 
 abbrev pub reordered_in : KernelState → ℕ → ℕ → Option WaitReason → KernelState
 reordered_in k id priority why = changed_for (moving id priority) k why
+
+-- Mutexes: who has them, and what they make of priorities. They are there in the profile PROFILE(STANDARD) alone.
+
+-- a task, if it is one, is released with E_OK
+abbrev pub with_released : KernelState → Option ℕ → KernelState
+with_released k None = k
+with_released k (Some id) = released_in k id e_ok None
+
+-- a mutex is given back: its first waiter has it then, and goes on, else nobody has it
+abbrev pub given_in : KernelState → ℕ → KernelState
+given_in k at =
+    with_released (record k { mutexes = object_changed given k.mutexes at }) (next_owner_in (object_at k.mutexes at))
+
+abbrev pub has_mutex_in : ℕ → Option Mutex → Bool
+has_mutex_in id None = false
+has_mutex_in id (Some m) = is_owned_by id m
+
+-- a task gives a mutex back where it has it
+abbrev pub given_by_in : KernelState → ℕ → ℕ → KernelState
+given_by_in k id at = if has_mutex_in id (object_at k.mutexes at) then given_in k at else k
+
+-- a task gives back what it has of the mutexes with IDs below a number, by ascending ID
+unfoldable pub given_below : KernelState → ℕ → ℕ → KernelState
+given_below k id zero = k
+given_below k id (suc at) = given_by_in (given_below k id at) id at
+
+abbrev pub all_given_in : KernelState → ℕ → KernelState
+all_given_in k id = if k.standard then given_below k id 256 else k
+
+-- a task ends, and gives back all mutexes that it has before
+abbrev pub quits_in : KernelState → ℕ → KernelState
+quits_in k id = ended_in (all_given_in k id) id
+
+-- Each task has a base priority; one that has a mutex with TA_CEILING has the ceiling, where that is higher. A priority
+-- is a number, of which a lower one is higher.
+
+abbrev pub base_in : Option Task → ℕ
+base_in None = 0
+base_in (Some task) = task.base
+
+-- of the tasks with IDs below a number, by ID; 0 from there on
+unfoldable pub bases_below : TaskTable → ℕ → List ℕ
+bases_below t zero = replicate 256 0
+bases_below t (suc id) = slice_set (bases_below t id) id (base_in (task_at t id))
+
+abbrev pub ceiling_by : Protocol → ℕ → ℕ → List ℕ → List ℕ
+ceiling_by protocol.Ceiling ceiling id priorities =
+    if nat_lt ceiling (priority_at priorities id) then slice_set priorities id ceiling else priorities
+ceiling_by protocol.Arrival ceiling id priorities = priorities
+ceiling_by protocol.Priority ceiling id priorities = priorities
+ceiling_by protocol.Inherit ceiling id priorities = priorities
+
+abbrev pub ceiling_of : Mutex → Option ℕ → List ℕ → List ℕ
+ceiling_of m None priorities = priorities
+ceiling_of m (Some id) priorities = ceiling_by m.protocol m.ceiling id priorities
+
+-- the owner of a mutex has its ceiling
+abbrev pub ceiling_in : Option Mutex → List ℕ → List ℕ
+ceiling_in None priorities = priorities
+ceiling_in (Some m) priorities = ceiling_of m m.owner priorities
+
+-- the owners of the mutexes with IDs below a number
+unfoldable pub ceilings_below : KernelState → ℕ → List ℕ
+ceilings_below k zero = bases_below k.tasks 256
+ceilings_below k (suc at) = ceiling_in (object_at k.mutexes at) (ceilings_below k at)
+
+-- who has the mutex with TA_INHERIT that a task waits for, if it waits for one
+
+abbrev pub lifts_owner : Protocol → Bool
+lifts_owner protocol.Inherit = true
+lifts_owner protocol.Arrival = false
+lifts_owner protocol.Priority = false
+lifts_owner protocol.Ceiling = false
+
+abbrev pub inheritor_in : Option Mutex → Option ℕ
+inheritor_in None = None
+inheritor_in (Some m) = if lifts_owner m.protocol then m.owner else None
+
+abbrev pub inheritor_of : KernelState → WaitKind → ℕ → Option ℕ
+inheritor_of k kind.Mutex object = inheritor_in (object_at k.mutexes object)
+inheritor_of k kind.Semaphore object = None
+inheritor_of k kind.Flag object = None
+inheritor_of k kind.Room object = None
+inheritor_of k kind.Datum object = None
+
+abbrev pub inheritor_for : KernelState → Option WaitReason → Option ℕ
+inheritor_for k None = None
+inheritor_for k (Some reason.Sleep) = None
+inheritor_for k (Some reason.Delay) = None
+inheritor_for k (Some (reason.On what object)) = inheritor_of k what object
+
+-- for the tasks with IDs below a number, by ID; None from there on
+unfoldable pub inheritors_below : KernelState → ℕ → List (Option ℕ)
+inheritors_below k zero = replicate 256 None
+inheritors_below k (suc id) = slice_set (inheritors_below k id) id (inheritor_for k (reason_of k id))
+
+-- The current priorities: the highest of what each task has of its own, and of those of the tasks that wait for the
+-- mutexes with TA_INHERIT that it has (`Lifting` has the rule).
+abbrev pub priorities_of : KernelState → List ℕ
+priorities_of k = lifted (ceilings_below k 256) (inheritors_below k 256)
+
+-- a task is lifted to a priority or comes down to it, and has its place by it where it is ready or waits
+abbrev pub lifted_in : KernelState → ℕ → ℕ → Option WaitReason → KernelState
+lifted_in k id priority why =
+    reordered_in (with_tasks k (changed (lifted_to priority) k.tasks id)) id priority why
+
+-- where that isn't the priority that it has
+abbrev pub prioritized_by : KernelState → ℕ → ℕ → Option Task → KernelState
+prioritized_by k id priority None = k
+prioritized_by k id priority (Some task) =
+    if task.priority == priority then k else lifted_in k id priority (waiting_of task.status)
+
+-- the tasks with IDs below a number have these priorities, by ascending ID
+unfoldable pub prioritized_below : KernelState → List ℕ → ℕ → KernelState
+prioritized_below k priorities zero = k
+prioritized_below k priorities (suc id) =
+    let before = prioritized_below k priorities id in
+    prioritized_by before id (priority_at priorities id) (task_at before.tasks id)
+
+-- each task has the current priority that it is to have
+abbrev pub prioritized : KernelState → KernelState
+prioritized k = if k.standard then prioritized_below k (priorities_of k) 256 else k
 
 -- Time.
 
@@ -144,7 +277,7 @@ all_timed_out k (id ∷ ids) = all_timed_out (timed_out k id) ids
 
 -- a tick is counted, and the waits end whose tick has come, by ascending ID
 abbrev pub ticked_on : KernelState → Time → KernelState
-ticked_on k time = all_timed_out (record k { time = time }) (due_from time 0)
+ticked_on k time = prioritized (all_timed_out (record k { time = time }) (due_from time 0))
 
 -- a tick passes, unless the last one has been counted
 abbrev pub ticked : KernelState → KernelState
@@ -152,12 +285,12 @@ ticked k = if nat_lt k.time.count last_count then ticked_on k (advanced k.time) 
 
 -- Exceptions.
 
--- The running task of a processor is ended by an exception: it is dormant, with nothing queued, and its processor is
--- neither CPU-locked nor has dispatching disabled.
+-- The running task of a processor is ended by an exception: it gives back its mutexes, is dormant, with nothing queued,
+-- and its processor is neither CPU-locked nor has dispatching disabled.
 abbrev pub faulted_task : KernelState → ℕ → Processor → Option ℕ → KernelState
 faulted_task k cpu p None = k
 faulted_task k cpu p (Some id) =
-    with_processor (ended_in (with_tasks k (noted without_activation k.tasks id)) id) cpu (unmarked p)
+    with_processor (quits_in (with_tasks k (noted without_activation k.tasks id)) id) cpu (unmarked p)
 
 abbrev pub faulted_in : KernelState → ℕ → Option Processor → KernelState
 faulted_in k cpu None = k
@@ -166,7 +299,7 @@ faulted_in k cpu (Some p) =
 
 -- An exception on a processor: in a handler it stops the processor for good, else it ends the running task.
 abbrev pub ended_by_fault : KernelState → ℕ → KernelState
-ended_by_fault k cpu = faulted_in k cpu (processor_at k cpu)
+ended_by_fault k cpu = prioritized (faulted_in k cpu (processor_at k cpu))
 
 -- A task as it stands, with the tick at which its wait ends.
 

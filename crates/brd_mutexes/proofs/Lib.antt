@@ -1,2 +1,3 @@
 pub mod LiftingLemmas
 pub mod PassLemmas
+pub mod LiftedLemmas

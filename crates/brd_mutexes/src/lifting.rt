@@ -3,12 +3,21 @@
 ghost use Rattle.std.specs.Prelude.{◌≡◌, ◌<◌, length, false, IsTrue};
 ghost use Rattle.std.specs.List.{sum};
 ghost use Rattle.brd_mutexes.specs.Lifting.{AreFounded, AreHigh, AreLifted};
-ghost use Rattle.brd_mutexes.specs.Passes.{is_higher, lifted_by, lifts, passed};
+ghost use Rattle.brd_mutexes.specs.Passes.{is_higher, lifted_by, lifts, passed, lifted};
 
 /// Lifts the priority of each task to the highest of those of the tasks that lead to it. Before it they are those of
 /// the tasks alone; `holders` has for each task who holds what it waits for.
-#[tactic(auto, using(crate::proofs::PassLemmas::begins, crate::proofs::PassLemmas::pass_founded, crate::proofs::PassLemmas::less, crate::proofs::PassLemmas::ends))]
 pub fn lift(priorities: &mut [u8], holders: &[Option<u16>])
+    requires { length holders.now ≡ length priorities.old }
+    ensures are { AreLifted priorities.old holders.now priorities.new }
+    ensures is { priorities.new ≡ lifted priorities.old holders.now }
+{
+    lift_all(priorities, holders);
+}
+
+/// The same.
+#[tactic(auto, using(crate::proofs::PassLemmas::begins, crate::proofs::PassLemmas::pass_founded, crate::proofs::PassLemmas::less, crate::proofs::PassLemmas::ends))]
+fn lift_all(priorities: &mut [u8], holders: &[Option<u16>])
     requires { length holders.now ≡ length priorities.old }
     ensures { AreLifted priorities.old holders.now priorities.new }
 {

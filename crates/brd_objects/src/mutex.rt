@@ -112,6 +112,16 @@ impl Mutex {
         self.ceiling
     }
 
+    /// The task that waits first.
+    pub fn first(&self) -> Option<u16>
+        ensures { result ≡ next_owner self.now }
+    {
+        match self.waiters.first() {
+            Some(first) => Some(first.id),
+            None => None,
+        }
+    }
+
     /// Whether a task has it.
     pub fn is_owned_by(&self, task: u16) -> bool
         ensures { result ≡ is_owned_by task self.now }

@@ -30,6 +30,8 @@ pub enum WaitKind {
     Room,
     /// A datum of a data queue, to receive.
     Datum,
+    /// A mutex.
+    Mutex,
 }
 
 /// What a task waits for (uITRON 4.0 specification, the `tskwait` of ref_tsk).

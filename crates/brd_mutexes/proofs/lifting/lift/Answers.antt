@@ -1,5 +1,5 @@
-use Rattle.brd_mutexes.proofs.PassLemmas.{begins}
+use Rattle.brd_mutexes.proofs.LiftedLemmas.{lifted-is}
 use Rattle.brd_mutexes.proofs.lifting.lift.Goals as goal
 
-pub passes-init : goal.passes-init
-passes-init c = begins c.args.priorities.now c.args.holders.now
+pub returns-clause-is : goal.returns-clause-is
+returns-clause-is c = lifted-is c.args.priorities.now c.args.holders.now c.lift_all.new.priorities c.lift_all.ensures
