@@ -9,7 +9,7 @@ use Rattle.brd_kernel.specs.declared.call.Call.TheVariants as call
 use Rattle.brd_kernel.specs.declared.call.Ercd.TheVariants.{Id}
 use Rattle.brd_kernel.specs.Kernel.{KernelState, holder_from, spin_by, has_spin_lock, spin_of}
 use Rattle.brd_kernel.specs.Row.{refused, served_object, or_refused, asks_again}
-use Rattle.brd_kernel.specs.Services.{loc_spn, is_no_id, is_there_taken, comes_again, caller_on, serve_of}
+use Rattle.brd_kernel.specs.Services.{loc_spn, is_no_id, is_there_taken, comes_again, caller_on, serve_of, with_priorities}
 use Rattle.brd_kernel.proofs.WalkLemmas.{Anything, Law, serve-says}
 use Rattle.brd_kernel.proofs.SameLemmas.{Same, same-law}
 
@@ -23,7 +23,7 @@ nothing-law k cpu = same-law (λ new. Unit {0}) k cpu (caller_on k cpu) (record 
 })
 
 held : (k : KernelState) (cpu id : ℕ) (bad : Bool) (found : Option Spin) → (not bad && is_there_taken found) ≡ true →
-    asks_again (or_refused k (refused bad Id (served_object (loc_spn k cpu id) found))).reply ≡ true
+    asks_again (or_refused k (with_priorities (refused bad Id (served_object (loc_spn k cpu id) found)))).reply ≡ true
 held k cpu id true found is = absurd (false≢true is)
 held k cpu id false None is = absurd (false≢true is)
 held k cpu id false (Some spin.Free) is = absurd (false≢true is)
@@ -40,7 +40,7 @@ both false false there back = refl
 
 pub serve-again : (k : KernelState) (cpu : ℕ) (c : Call) → asks_again (serve_of k cpu c).reply ≡ comes_again k c
 serve-again k cpu c =
-    both (asks_again (serve_of k cpu c).reply) (comes_again k c) (serve-says (λ new. Unit {0}) k cpu (nothing-law k cpu) c) (foreseen k cpu c)
+    both (asks_again (serve_of k cpu c).reply) (comes_again k c) (serve-says (λ new. Unit {0}) k cpu (nothing-law k cpu) (λ new was. tt) c) (foreseen k cpu c)
 
 -- What is told before the call doesn't hang on tasks and contexts.
 

@@ -8,6 +8,9 @@ pub mod CommonLemmas
 pub mod WaitLemmas
 pub mod who_waits
 pub mod ServedLemmas
+pub mod PricedLemmas
+pub mod SettledLemmas
+pub mod BelowLemmas
 pub mod WalkLemmas
 pub mod nobody_waits
 pub mod who_runs

@@ -6,19 +6,19 @@ use Rattle.brd_time.specs.Time.{last_count, advanced}
 use Rattle.brd_kernel.specs.declared.processor.Processor.{Processor}
 use Rattle.brd_kernel.specs.declared.call.Call.{Call}
 use Rattle.brd_kernel.specs.Kernel.{KernelState, with_tasks, with_processor, processor_at, accepted_line, handles}
-use Rattle.brd_kernel.specs.Waits.{ended_in, ticked_on, ticked, faulted_task, faulted_in, ended_by_fault}
+use Rattle.brd_kernel.specs.Waits.{ticked_on, ticked, faulted_task, faulted_in, ended_by_fault, quits_in}
 use Rattle.brd_kernel.specs.Services.{unmarked_on, serve_of, caller_on}
 use Rattle.brd_kernel.proofs.WalkLemmas.{Anything, Law, serve-always}
-use Rattle.brd_kernel.proofs.SameLemmas.{Same, same-ended, same-law}
+use Rattle.brd_kernel.proofs.SameLemmas.{Same, same-law, same-quits, same-prioritized}
 use Rattle.brd_kernel.proofs.SpinLemmas.{same-ticked}
 
 -- it has the profile where another one has
 abbrev pub AlikeTo : KernelState → KernelState → Type 0
 AlikeTo k new = new.standard ≡ k.standard
 
-exits-alike : (k : KernelState) (cpu id : ℕ) (found : Option Processor) → AlikeTo k (unmarked_on (ended_in k id) cpu found)
-exits-alike k cpu id None = (same-ended k id).standard
-exits-alike k cpu id (Some p) = (same-ended k id).standard
+exits-alike : (k : KernelState) (cpu id : ℕ) (found : Option Processor) → AlikeTo k (unmarked_on (quits_in k id) cpu found)
+exits-alike k cpu id None = (same-quits k id).standard
+exits-alike k cpu id (Some p) = (same-quits k id).standard
 
 alike-law : (k : KernelState) (cpu : ℕ) → Law Anything (AlikeTo k) k cpu (caller_on k cpu)
 alike-law k cpu = same-law (AlikeTo k) k cpu (caller_on k cpu) (record {
@@ -29,7 +29,7 @@ alike-law k cpu = same-law (AlikeTo k) k cpu (caller_on k cpu) (record {
 })
 
 pub serve-alike : (k : KernelState) (cpu : ℕ) (c : Call) → AlikeTo k (serve_of k cpu c).kernel
-serve-alike k cpu c = serve-always (AlikeTo k) k cpu (alike-law k cpu) c
+serve-alike k cpu c = serve-always (AlikeTo k) k cpu (alike-law k cpu) (λ new same. (same-prioritized new).standard ∙ same) c
 
 pub ticked-on-alike : (k : KernelState) → AlikeTo k (ticked_on k (advanced k.time))
 ticked-on-alike k = (same-ticked k).standard
@@ -43,7 +43,7 @@ ticked-alike k = ticked-if (nat_lt k.time.count last_count) k (ticked_on k (adva
 
 faulted-task-alike : (k : KernelState) (cpu : ℕ) (p : Processor) (running : Option ℕ) → AlikeTo k (faulted_task k cpu p running)
 faulted-task-alike k cpu p None = refl
-faulted-task-alike k cpu p (Some id) = (same-ended (with_tasks k (noted without_activation k.tasks id)) id).standard
+faulted-task-alike k cpu p (Some id) = (same-quits (with_tasks k (noted without_activation k.tasks id)) id).standard
 
 faulted-if : (test : Bool) (k : KernelState) (cpu : ℕ) (p : Processor) →
     AlikeTo k (if test then with_processor k cpu (record p { stopped = true }) else faulted_task k cpu p p.running)
@@ -55,7 +55,7 @@ faulted-alike k cpu None = refl
 faulted-alike k cpu (Some p) = faulted-if (is_some p.handling) k cpu p
 
 pub fault-alike : (k : KernelState) (cpu : ℕ) → AlikeTo k (ended_by_fault k cpu)
-fault-alike k cpu = faulted-alike k cpu (processor_at k cpu)
+fault-alike k cpu = (same-prioritized (faulted_in k cpu (processor_at k cpu))).standard ∙ faulted-alike k cpu (processor_at k cpu)
 
 handles-alike : (k : KernelState) (cpu line : ℕ) (found : Option Processor) → AlikeTo k (handles k cpu line found)
 handles-alike k cpu line None = refl

@@ -6,7 +6,7 @@ use Rattle.brd_tasks.specs.declared.status.WaitReason.{WaitReason}
 use Rattle.brd_tasks.specs.declared.status.WaitReason.TheVariants as reason
 use Rattle.brd_tasks.specs.declared.task.Task.{Task}
 use Rattle.brd_tasks.specs.Status.{waiting_of, blocked}
-use Rattle.brd_tasks.specs.Tasks.{task_at, through, changed, with_priority}
+use Rattle.brd_tasks.specs.Tasks.{task_at, through, changed}
 use Rattle.brd_time.specs.Time.{with_due}
 use Rattle.brd_objects.specs.declared.flag.Flag.{Flag}
 use Rattle.brd_objects.specs.declared.sent.Sent.{Sent}
@@ -23,10 +23,13 @@ use Rattle.brd_kernel.specs.declared.processor.Executor.TheVariants as executor
 use Rattle.brd_exec.specs.State.{State}
 use Rattle.brd_kernel.specs.declared.processor.Processor.{Processor}
 use Rattle.brd_kernel.specs.Kernel.{KernelState, with_tasks, with_processor, processor_at, with_context_of}
-use Rattle.brd_kernel.specs.Waits.{can_wait, with_wait, released_in, reason_of, broken_off, ended_in, reordered_in, answer_by, timed_out, all_timed_out}
-use Rattle.brd_kernel.specs.Services.{unmarked_on, handler_ended, with_released, with_all_released_in, with_satisfied_of, handed_over}
+use Rattle.brd_kernel.specs.Waits.{can_wait, with_wait, released_in, reason_of, broken_off, ended_in, reordered_in, answer_by, timed_out, all_timed_out, with_released, given_in, all_given_in, quits_in, prioritized}
+use Rattle.brd_kernel.specs.Services.{unmarked_on, handler_ended, with_all_released_in, with_satisfied_of, handed_over}
 use Rattle.brd_kernel.proofs.WaitLemmas.{OnlyLists, unlisted-only, reordered-only}
 use Rattle.brd_kernel.proofs.WalkLemmas.{Lacks, No-one, lacked, awaiting, Fact, OfTask, Holding, Law}
+use Rattle.brd_objects.specs.Mutexes.{given, next_owner_in}
+use Rattle.brd_kernel.proofs.PricedLemmas.{priced, priced_in}
+use Rattle.brd_kernel.proofs.SettledLemmas.{Settles, all-given, all-prioritized}
 
 pub record Same (new old : KernelState) : Type 0 where
   pub processors : new.processors ≡ old.processors
@@ -57,6 +60,39 @@ same-ended k id =
     let only = unlisted-only k id (reason_of k id) in record
     { processors = only.processors; spin_locks = only.spin_locks; standard = only.standard }
 
+-- Mutexes and priorities.
+
+pub same-released : (k : KernelState) (id : Option ℕ) → Same (with_released k id) k
+same-released k None = record { processors = refl; spin_locks = refl; standard = refl }
+same-released k (Some id) = record { processors = refl; spin_locks = refl; standard = refl }
+
+pub same-given : (k : KernelState) (at : ℕ) → Same (given_in k at) k
+same-given k at =
+    let only = same-released (record k { mutexes = object_changed given k.mutexes at }) (next_owner_in (object_at k.mutexes at)) in
+    record { processors = only.processors; spin_locks = only.spin_locks; standard = only.standard }
+
+pub same-priced : (k : KernelState) (base : Task → ℕ) (id priority : ℕ) (why : Option WaitReason) → Same (priced_in k base id priority why) k
+same-priced k base id priority why =
+    let only = same-reordered (with_tasks k (changed (priced base priority) k.tasks id)) id priority why in
+    record { processors = only.processors; spin_locks = only.spin_locks; standard = only.standard }
+
+same-settles : (k : KernelState) → Settles (λ new. Same new k)
+same-settles k = record {
+  gives = λ now at m there same. same-then (same-given now at) same;
+  prices = λ now base id priority (task : Task) there same. same-then (same-priced now base id priority (waiting_of task.status)) same;
+}
+
+pub same-all_given : (k : KernelState) (id : ℕ) → Same (all_given_in k id) k
+same-all_given k id =
+    all-given (λ new. Same new k) k id (same-settles k) (record { processors = refl; spin_locks = refl; standard = refl })
+
+pub same-quits : (k : KernelState) (id : ℕ) → Same (quits_in k id) k
+same-quits k id = same-then (same-ended (all_given_in k id) id) (same-all_given k id)
+
+pub same-prioritized : (k : KernelState) → Same (prioritized k) k
+same-prioritized k =
+    all-prioritized (λ new. Same new k) k (same-settles k) (record { processors = refl; spin_locks = refl; standard = refl })
+
 pub same-broken : (k : KernelState) (id answer : ℕ) → Same (broken_off k id answer) k
 same-broken k id answer =
     let only = unlisted-only k id (reason_of k id) in record
@@ -80,10 +116,6 @@ same-satisfied k id (Some f) =
     let rest : Same (with_all_released_in new (all_released f) f.pattern) new =
     same-all_released new (all_released f) f.pattern in
     record { processors = rest.processors; spin_locks = rest.spin_locks; standard = rest.standard }
-
-pub same-released : (k : KernelState) (id : Option ℕ) → Same (with_released k id) k
-same-released k None = record { processors = refl; spin_locks = refl; standard = refl }
-same-released k (Some id) = record { processors = refl; spin_locks = refl; standard = refl }
 
 pub same-handed : (k : KernelState) (datum : ℕ) (what : Sent) → Same (handed_over k datum what) k
 same-handed k datum (Handed id) = record { processors = refl; spin_locks = refl; standard = refl }
@@ -109,7 +141,7 @@ same-entered k caller id _ = record { processors = refl; spin_locks = refl; stan
 -- A law of what processors and spin locks tell: few effects change one of them, and the law says what it makes of each.
 pub record ProcessorLaw (Known : Fact → Type 0) (Q : KernelState → Type 0) (k : KernelState) (cpu caller : ℕ) : Type 0 where
   pub same : (new : KernelState) → Same new k → Q new
-  pub exits : Known OfTask → Q (unmarked_on (ended_in k caller) cpu (processor_at k cpu))
+  pub exits : Known OfTask → Q (unmarked_on (quits_in k caller) cpu (processor_at k cpu))
   pub marks : (p q : Processor) → processor_at k cpu ≡ Some p → q.running ≡ p.running → Holding Known k p q → Q (with_processor k cpu q)
   pub returns : (p : Processor) → processor_at k cpu ≡ Some p → Q (handler_ended k cpu p)
 
@@ -122,11 +154,8 @@ same-law Q k cpu caller law = record {
   wakes = λ id task there awake. law.same _ (record { processors = refl; spin_locks = refl; standard = refl });
   unwakes = λ id. law.same _ (record { processors = refl; spin_locks = refl; standard = refl });
   exits = law.exits;
-  ends = λ id task there held other. law.same (ended_in k id) (same-ended k id);
-  prioritizes = λ id priority (task : Task) there.
-      let new : KernelState = with_tasks k (changed (with_priority priority) k.tasks id) in
-      let only = same-reordered new id priority (waiting_of task.status) in
-      law.same _ (record { processors = only.processors; spin_locks = only.spin_locks; standard = only.standard });
+  ends = λ id task there held other. law.same (quits_in k id) (same-quits k id);
+  prioritizes = λ base id priority (task : Task) there. law.same _ (same-priced k base id priority (waiting_of task.status));
   migrates = λ id to task there held absent may. law.same _ (record { processors = refl; spin_locks = refl; standard = refl });
   suspends = λ id task there held may. law.same _ (record { processors = refl; spin_locks = refl; standard = refl });
   resumes = λ id. law.same _ (record { processors = refl; spin_locks = refl; standard = refl });
@@ -156,6 +185,8 @@ same-law Q k cpu caller law = record {
   receives = λ id q (it : Received) there is.
       let only = same-released (record k { queues = object_changed received k.queues id }) it.sender in
       law.same _ (record { processors = only.processors; spin_locks = only.spin_locks; standard = only.standard });
+  locks = λ id m there. law.same _ (record { processors = refl; spin_locks = refl; standard = refl });
+  gives = λ id m there. law.same _ (same-given k id);
   awaits = λ id due lacks may.
       law.same _ (same-wait k caller (reason.On (lacked lacks) id) due (awaiting k caller id lacks) (same-entered k caller id lacks));
   writes = λ word. law.same _ (record { processors = refl; spin_locks = refl; standard = refl });

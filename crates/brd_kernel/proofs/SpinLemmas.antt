@@ -17,11 +17,11 @@ use Rattle.brd_kernel.specs.Kernel.{KernelState, with_tasks, with_processor, pro
 use Rattle.brd_kernel.specs.Making.{idle_one, idle_ones}
 use Rattle.brd_kernel.specs.Dispatch.{dispatched_one, dispatched}
 use Rattle.brd_kernel.specs.Holding.{IsHolder, HeldAs, AreLocks}
-use Rattle.brd_kernel.specs.Waits.{ended_in, ticked_on, ticked, faulted_task, faulted_in, ended_by_fault}
+use Rattle.brd_kernel.specs.Waits.{ticked_on, ticked, faulted_task, faulted_in, ended_by_fault, quits_in, prioritized, all_timed_out}
 use Rattle.brd_kernel.specs.Services.{unmarked_on, handler_ended, serve_of, caller_on}
 use Rattle.brd_kernel.proofs.who_waits.ListLemmas.{same-number, written-at}
 use Rattle.brd_kernel.proofs.DispatchLemmas.{at-dispatched}
-use Rattle.brd_kernel.proofs.SameLemmas.{Same, same-ended, same-timed, same-law}
+use Rattle.brd_kernel.proofs.SameLemmas.{Same, same-timed, same-law, same-quits, same-prioritized, same-then}
 use Rattle.brd_kernel.proofs.WalkLemmas.{HoldsOn, Holding, Keeps, Opens, Takes, Leaves-none, Law, serve-leaves}
 use Rattle.brd_kernel.proofs.who_runs.RunningCallLemmas.{IsTaskOf, known_of, MayServe}
 
@@ -332,16 +332,25 @@ spin-law k cpu p found was =
     same-law (Wrote k cpu) k cpu caller
     (record {
       same = λ new is. same-wrote k cpu new was is;
-      exits = λ may. unmarked-wrote k (ended_in k caller) cpu (processor_at k cpu) refl (same-ended k caller) was;
+      exits = λ may. unmarked-wrote k (quits_in k caller) cpu (processor_at k cpu) refl (same-quits k caller) was;
       marks = λ q new there running how. marked-wrote k cpu p q new found there running how was;
       returns = λ q there. returned-wrote k cpu q there was;
     })
+
+-- what is written since is the same
+wrote-same : (k : KernelState) (cpu : ℕ) (now new : KernelState) → Same new now → Wrote k cpu now → Wrote k cpu new
+wrote-same k cpu now new same was = record {
+  spin_locks = same.spin_locks ∙ was.spin_locks;
+  others = λ at other. ap (λ ps. slice_index_or ps at None) same.processors ∙ was.others at other;
+  own = subst (OwnAfter k cpu (processor_at k cpu)) (sym (ap (λ ps. slice_index_or ps cpu None) same.processors)) was.own;
+}
 
 -- a call that the gate lets through
 pub serve-wrote : (k : KernelState) (cpu : ℕ) (p : Processor) (c : Call) → processor_at k cpu ≡ Some p →
     MayServe p (caller_on k cpu) c →
     IsLocking k → Wrote k cpu (serve_of k cpu c).kernel
-serve-wrote k cpu p c there may was = serve-leaves (Wrote k cpu) k cpu (spin-law k cpu p there was) c may
+serve-wrote k cpu p c there may was =
+    serve-leaves (Wrote k cpu) k cpu (spin-law k cpu p there was) (λ new wrote. wrote-same k cpu new (prioritized new) (same-prioritized new) wrote) c may
 
 -- Exceptions.
 
@@ -359,8 +368,8 @@ faulted-task-wrote : (k : KernelState) (cpu : ℕ) (p : Processor) (running : Op
 faulted-task-wrote k cpu p None there was = same-wrote k cpu k was (record { processors = refl; spin_locks = refl; standard = refl })
 faulted-task-wrote k cpu p (Some id) there was =
     let on : KernelState = with_tasks k (noted without_activation k.tasks id) in
-    let only : Same (ended_in on id) on = same-ended on id in
-    put-wrote k cpu p (unmarked p) (with_processor (ended_in on id) cpu (unmarked p))
+    let only : Same (quits_in on id) on = same-quits on id in
+    put-wrote k cpu p (unmarked p) (with_processor (quits_in on id) cpu (unmarked p))
     (ap (λ ps. slice_set ps cpu (Some (unmarked p))) only.processors)
     only.spin_locks there refl (λ other is. holds-none None other refl is)
 
@@ -377,7 +386,9 @@ faulted-wrote k cpu None there was = same-wrote k cpu k was (record { processors
 faulted-wrote k cpu (Some p) there was = faulted-by (is_some p.handling) k cpu p refl there was
 
 pub fault-wrote : (k : KernelState) (cpu : ℕ) → IsLocking k → Wrote k cpu (ended_by_fault k cpu)
-fault-wrote k cpu was = faulted-wrote k cpu (processor_at k cpu) refl was
+fault-wrote k cpu was =
+    let left : KernelState = faulted_in k cpu (processor_at k cpu) in
+    wrote-same k cpu left (prioritized left) (same-prioritized left) (faulted-wrote k cpu (processor_at k cpu) refl was)
 
 -- Interrupts: a holder accepts none.
 
@@ -409,7 +420,8 @@ accept-wrote k cpu line is was =
 pub same-ticked : (k : KernelState) → Same (ticked_on k (advanced k.time)) k
 same-ticked k =
     let only : Same (ticked_on k (advanced k.time)) (record k { time = advanced k.time }) =
-    same-timed (record k { time = advanced k.time }) (due_from (advanced k.time) 0) in
+    same-then (same-prioritized (all_timed_out (record k { time = advanced k.time }) (due_from (advanced k.time) 0)))
+    (same-timed (record k { time = advanced k.time }) (due_from (advanced k.time) 0)) in
     record { processors = only.processors; spin_locks = only.spin_locks; standard = only.standard }
 
 pub same-pending : (k : KernelState) (line : ℕ) → Same (with_pending k line) k

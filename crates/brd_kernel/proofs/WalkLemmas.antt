@@ -2,7 +2,7 @@
 -- that a call can have (`Law`); the walk says of each call which effect it has. A call that has an effect which others
 -- have already is one case here, and nothing in any law.
 use Rattle.std.proofs.Common.{◌≡◌, ◌≢◌, ℕ, ◌%◌, ◌^◌, [], ◌∷◌, ◌++◌, refl, ap, subst, ◌∙◌, arith}
-use Rattle.std.specs.Prelude.{Bool, true, false, not, ◌==◌, ◌&&◌, ◌||◌, nat_lt, Option, None, Some, Err}
+use Rattle.std.specs.Prelude.{Bool, true, false, not, ◌==◌, ◌&&◌, ◌||◌, nat_lt, Option, None, Some, Err, is_some, Result, Ok}
 use Rattle.std.proofs.lemmas.Bool.{or_parts, true≢false}
 use Rattle.std.proofs.lemmas.Bool.Decides.{nat_tests}
 use Rattle.brd_tasks.specs.declared.status.WaitReason.{WaitReason}
@@ -29,14 +29,20 @@ use Rattle.brd_kernel.specs.declared.processor.Spin.{Spin}
 use Rattle.brd_kernel.specs.declared.processor.Spin.TheVariants as spin
 use Rattle.brd_kernel.specs.declared.call.Call.{Call}
 use Rattle.brd_kernel.specs.declared.call.Call.TheVariants as call
+use Rattle.brd_kernel.specs.declared.call.Ercd.{Ercd}
 use Rattle.brd_kernel.specs.declared.call.Ercd.TheVariants.{Rlwai, Tmout}
+use Rattle.brd_kernel.specs.declared.call.Reply.{Reply}
+use Rattle.brd_kernel.specs.declared.call.Reply.TheVariants.{Answer, Silent, Again}
 use Rattle.brd_kernel.specs.Answer.{e_ok, code_of}
 use Rattle.brd_kernel.specs.Kernel.{KernelState, with_tasks, with_processor, processor_at, spin_of, holding, letting_go}
-use Rattle.brd_kernel.specs.Waits.{is_bad_timeout, due_by, due_after, with_wait, released_in, broken_off, ended_in}
-use Rattle.brd_kernel.specs.Row.{served, asks_again}
+use Rattle.brd_kernel.specs.Waits.{is_bad_timeout, due_by, due_after, with_wait, released_in, broken_off, with_released, quits_in, given_in, prioritized}
+use Rattle.brd_kernel.specs.Row.{served, asks_again, Served}
 use Rattle.brd_kernel.specs.Services as table
-use Rattle.brd_kernel.specs.Services.{named, is_asleep, is_bad_want, is_held_elsewhere, is_no_processor, or_waits, callers_priority, with_released, with_satisfied_released, handed_over, with_priority_in, flag_got, queue_sent, queue_received, unmarked_on, handler_ended, is_taken, lock_taken_by, lock_taken, lock_given_by, is_no_id, is_there_taken, comes_again, serve_by, serve_of, caller_on}
-use Rattle.brd_kernel.proofs.ServedLemmas.{Wanted, Leaves, leaves-row, leaves-if, leaves-or_refused, again-or_refused}
+use Rattle.brd_kernel.specs.Services.{named, is_asleep, is_bad_want, is_held_elsewhere, is_no_processor, or_waits, callers_priority, with_satisfied_released, handed_over, flag_got, queue_sent, queue_received, unmarked_on, handler_ended, is_taken, lock_taken_by, lock_taken, lock_given_by, is_no_id, is_there_taken, comes_again, serve_by, serve_of, caller_on}
+use Rattle.brd_kernel.proofs.ServedLemmas.{Wanted, Leaves, leaves-row, leaves-if, leaves-or_refused, again-or_refused, LeavesBy}
+use Rattle.brd_kernel.proofs.PricedLemmas.{priced_in}
+use Rattle.brd_objects.specs.declared.mutex.Mutex.{Mutex}
+use Rattle.brd_objects.specs.Mutexes.{owned, mutex_awaited}
 
 -- a request names a processor of the board, if it names one
 abbrev pub IsOfBoard : KernelState → Request → Type 0
@@ -54,16 +60,20 @@ in_flag k caller id want = record k { flags = object_changed (flag_awaited calle
 abbrev pub in_senders : KernelState → ℕ → ℕ → ℕ → KernelState
 in_senders k caller id datum = record k { queues = object_changed (awaited_by_sender caller (callers_priority k caller) datum) k.queues id }
 
+abbrev pub in_mutex : KernelState → ℕ → ℕ → KernelState
+in_mutex k caller id = record k { mutexes = object_changed (mutex_awaited caller (callers_priority k caller)) k.mutexes id }
+
 abbrev pub in_receivers : KernelState → ℕ → ℕ → KernelState
 in_receivers k caller id = record k { queues = object_changed (awaited_by_receiver caller (callers_priority k caller)) k.queues id }
 
 -- What a caller finds of an object where it begins to wait for it: a semaphore without one, a flag without the bits, a
--- full data queue, or an empty one.
+-- full data queue, an empty one, or a mutex that somebody has.
 pub data Lacks (k : KernelState) (id : ℕ) : Type 0 where
   No-one : (s : Semaphore) → object_at k.semaphores id ≡ Some s → has_one s ≡ false → Lacks k id
   No-bits : (want : Want) (f : Flag) → object_at k.flags id ≡ Some f → pattern_for want f ≡ None → want.bits ≢ 0 → Lacks k id
   No-room : (datum : ℕ) (q : DataQueueState) → object_at k.queues id ≡ Some q → outcome q ≡ Full → Lacks k id
   No-datum : (q : DataQueueState) → object_at k.queues id ≡ Some q → receipt q ≡ None → Lacks k id
+  No-mutex : (m : Mutex) → object_at k.mutexes id ≡ Some m → is_some m.owner ≡ true → Lacks k id
 
 -- what it waits for then
 abbrev pub lacked : {k : KernelState} {id : ℕ} → Lacks k id → WaitKind
@@ -71,6 +81,7 @@ lacked (No-one s there none) = kind.Semaphore
 lacked (No-bits want f there none some) = kind.Flag
 lacked (No-room datum q there full) = kind.Room
 lacked (No-datum q there none) = kind.Datum
+lacked (No-mutex m there held) = kind.Mutex
 
 -- it stands in the list of that
 abbrev pub awaiting : (k : KernelState) (caller id : ℕ) → Lacks k id → KernelState
@@ -78,6 +89,7 @@ awaiting k caller id (No-one s there none) = in_semaphore k caller id
 awaiting k caller id (No-bits want f there none some) = in_flag k caller id want
 awaiting k caller id (No-room datum q there full) = in_senders k caller id datum
 awaiting k caller id (No-datum q there none) = in_receivers k caller id
+awaiting k caller id (No-mutex m there held) = in_mutex k caller id
 
 -- What the gate may have shown of a caller: its processor isn't held; it is the task that runs there, and no handler;
 -- its processor holds no spin lock.
@@ -114,10 +126,11 @@ pub record Law (Known : Fact → Type 0) (Q : KernelState → Type 0) (k : Kerne
   pub wakes : (id : ℕ) (task : Task) → task_at k.tasks id ≡ Some task → is_asleep task.status ≡ false →
       Q (with_tasks k (noted (with_wakeup true) k.tasks id))
   pub unwakes : (id : ℕ) → Q (with_tasks k (noted (with_wakeup false) k.tasks id))
-  pub exits : Known OfTask → Q (unmarked_on (ended_in k caller) cpu (processor_at k cpu))
+  pub exits : Known OfTask → Q (unmarked_on (quits_in k caller) cpu (processor_at k cpu))
   pub ends : (id : ℕ) (task : Task) → task_at k.tasks id ≡ Some task → is_held_elsewhere k cpu id task ≡ false → (id == caller) ≡ false →
-      Q (ended_in k id)
-  pub prioritizes : (id priority : ℕ) (task : Task) → task_at k.tasks id ≡ Some task → Q (with_priority_in k id priority (waiting_of task.status))
+      Q (quits_in k id)
+  pub prioritizes : (base : Task → ℕ) (id priority : ℕ) (task : Task) → task_at k.tasks id ≡ Some task →
+      Q (priced_in k base id priority (waiting_of task.status))
   pub migrates : (id to : ℕ) (task : Task) → task_at k.tasks id ≡ Some task → is_held_elsewhere k cpu id task ≡ false →
       is_no_processor k to ≡ false → ((id == caller) ≡ true → Known Unheld) →
       Q (with_tasks k (changed (on_processor to) k.tasks id))
@@ -151,6 +164,9 @@ pub record Law (Known : Fact → Type 0) (Q : KernelState → Type 0) (k : Kerne
       Q (handed_over (record k { queues = object_changed (forced datum) k.queues id }) datum (forced_outcome q))
   pub receives : (id : ℕ) (q : DataQueueState) (it : Received) → object_at k.queues id ≡ Some q → receipt q ≡ Some it →
       Q (with_released (record k { queues = object_changed received k.queues id }) it.sender)
+  -- of a mutex
+  pub locks : (id : ℕ) (m : Mutex) → object_at k.mutexes id ≡ Some m → Q (record k { mutexes = object_changed (owned caller) k.mutexes id })
+  pub gives : (id : ℕ) (m : Mutex) → object_at k.mutexes id ≡ Some m → Q (given_in k id)
   -- of a wait for an object
   pub awaits : (id : ℕ) (due : Option ℕ) (lacks : Lacks k id) → Known Unheld →
       Q (with_wait k caller (reason.On (lacked lacks) id) due (awaiting k caller id lacks))
@@ -184,6 +200,7 @@ stop_of (call.TwaiSem s timeout) = MayWait timeout
 stop_of (call.TwaiFlg f bits mode timeout) = MayWait timeout
 stop_of (call.TsndDtq q datum timeout) = MayWait timeout
 stop_of (call.TrcvDtq q timeout) = MayWait timeout
+stop_of (call.TlocMtx m timeout) = MayWait timeout
 stop_of _ = GoesOn
 
 -- What has to be known of the caller of a call by that.
@@ -316,7 +333,7 @@ walk Q k cpu caller law (call.TerTsk t) may told =
     (λ (task : Task) passes. law.ends t task passes.there (or-right (is_dormant task.status) (is_held_elsewhere k cpu t task) passes.obj) passes.iluse)
 walk Q k cpu caller law (call.ChgPri t priority) may told =
     leaves-row Q (table.chg_pri k (named caller t) priority)
-    (λ (task : Task) passes. law.prioritizes (named caller t) (table.priority_or_initial priority task) task passes.there)
+    (λ (task : Task) passes. law.prioritizes (λ x. table.priority_or_initial priority task) (named caller t) (table.priority_or_initial priority task) task passes.there)
 walk Q k cpu caller law (call.GetPri t) may told = leaves-row Q (table.get_pri k (named caller t)) (λ task passes. law.stays)
 walk Q k cpu caller law (call.MigTsk t to) may told =
     leaves-row Q (table.mig_tsk k cpu (named caller t) to)
@@ -392,23 +409,46 @@ walk Q k cpu caller law (call.RefTsk t word) may told = leaves-row Q (table.ref_
 walk Q k cpu caller law (call.RefSem s word) may told = leaves-row Q (table.ref_sem k s word) (λ (s : Semaphore) passes. law.stays)
 walk Q k cpu caller law (call.RefFlg f word) may told = leaves-row Q (table.ref_flg k f word) (λ (f : Flag) passes. law.stays)
 walk Q k cpu caller law (call.RefDtq q word) may told = leaves-row Q (table.ref_dtq k q word) (λ (q : DataQueueState) passes. law.stays)
+walk Q k cpu caller law (call.TlocMtx id timeout) may told =
+    leaves-row Q (table.tloc_mtx k caller id timeout)
+    (λ (m : Mutex) passes. leaves-if Q (is_some m.owner) _ _
+    (λ held. waits Q k caller (reason.On kind.Mutex id) timeout (in_mutex k caller id)
+    (λ wait. law.awaits id (due_by k timeout) (No-mutex m passes.there held) (may wait)))
+    (λ free. law.locks id m passes.there))
+walk Q k cpu caller law (call.UnlMtx id) may told = leaves-row Q (table.unl_mtx k caller id) (λ (m : Mutex) passes. law.gives id m passes.there)
+walk Q k cpu caller law (call.RefMtx id word) may told = leaves-row Q (table.ref_mtx k id word) (λ (m : Mutex) passes. law.stays)
+
+-- Then tasks are given the priorities that they are to have.
+
+prioritized-by : (Q : Wanted) (k : KernelState) (reply : Reply) → ((new : KernelState) → Q.kernel new → Q.kernel (prioritized new)) →
+    LeavesBy Q k reply → LeavesBy Q (table.prioritized_after k reply) reply
+prioritized-by Q k (Answer code second) settles leaves = settles k leaves
+prioritized-by Q k Silent settles leaves = settles k leaves
+prioritized-by Q k Again settles leaves = leaves
+
+prioritized-leaves : (Q : Wanted) (says : Result Served Ercd) → ((new : KernelState) → Q.kernel new → Q.kernel (prioritized new)) →
+    Leaves Q says → Leaves Q (table.with_priorities says)
+prioritized-leaves Q (Ok done) settles leaves = prioritized-by Q done.kernel done.reply settles leaves
+prioritized-leaves Q (Err code) settles leaves = tt
 
 -- what a call leaves, refused or not
 pub serve-leaves : {Known : Fact → Type 0} (Q : KernelState → Type 0) (k : KernelState) (cpu : ℕ) (law : Law Known Q k cpu (caller_on k cpu))
-    (c : Call) → May Known (caller_on k cpu) c → Q (serve_of k cpu c).kernel
-serve-leaves Q k cpu law c may =
+    (settles : (new : KernelState) → Q new → Q (prioritized new)) (c : Call) → May Known (caller_on k cpu) c → Q (serve_of k cpu c).kernel
+serve-leaves Q k cpu law settles c may =
     let wanted : Wanted = record { kernel = Q; again = Unit {0} } in
-    leaves-or_refused wanted k (serve_by k cpu (caller_on k cpu) c) law.stays (walk wanted k cpu (caller_on k cpu) law c may (λ told. tt))
+    leaves-or_refused wanted k (table.with_priorities (serve_by k cpu (caller_on k cpu) c)) law.stays
+    (prioritized-leaves wanted (serve_by k cpu (caller_on k cpu) c) settles (walk wanted k cpu (caller_on k cpu) law c may (λ told. tt)))
 
 -- the same, where a law needs to know nothing of the caller
-pub serve-always : (Q : KernelState → Type 0) (k : KernelState) (cpu : ℕ) → Law Anything Q k cpu (caller_on k cpu) → (c : Call) →
-    Q (serve_of k cpu c).kernel
-serve-always Q k cpu law c = serve-leaves Q k cpu law c (any-may (caller_on k cpu) (stop_of c))
+pub serve-always : (Q : KernelState → Type 0) (k : KernelState) (cpu : ℕ) → Law Anything Q k cpu (caller_on k cpu) →
+    ((new : KernelState) → Q new → Q (prioritized new)) → (c : Call) → Q (serve_of k cpu c).kernel
+serve-always Q k cpu law settles c = serve-leaves Q k cpu law settles c (any-may (caller_on k cpu) (stop_of c))
 
 -- a call that is answered so is one of which it could be told before
-pub serve-says : (Q : KernelState → Type 0) (k : KernelState) (cpu : ℕ) → Law Anything Q k cpu (caller_on k cpu) → (c : Call) →
-    asks_again (serve_of k cpu c).reply ≡ true → comes_again k c ≡ true
-serve-says Q k cpu law c =
+pub serve-says : (Q : KernelState → Type 0) (k : KernelState) (cpu : ℕ) → Law Anything Q k cpu (caller_on k cpu) →
+    ((new : KernelState) → Q new → Q (prioritized new)) → (c : Call) → asks_again (serve_of k cpu c).reply ≡ true → comes_again k c ≡ true
+serve-says Q k cpu law settles c =
     let wanted : Wanted = record { kernel = Q; again = comes_again k c ≡ true } in
-    again-or_refused wanted k (serve_by k cpu (caller_on k cpu) c)
-    (walk wanted k cpu (caller_on k cpu) law c (any-may (caller_on k cpu) (stop_of c)) (λ told. told))
+    again-or_refused wanted k (table.with_priorities (serve_by k cpu (caller_on k cpu) c))
+    (prioritized-leaves wanted (serve_by k cpu (caller_on k cpu) c) settles
+    (walk wanted k cpu (caller_on k cpu) law c (any-may (caller_on k cpu) (stop_of c)) (λ told. told)))

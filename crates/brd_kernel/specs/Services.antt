@@ -7,7 +7,6 @@
 use Rattle.std.specs.Prelude.{ℕ, zero, suc, ◌+◌, ◌%◌, ◌^◌, ◌-◌, ◌==◌, nat_lt, nat_le, Bool, true, false, not, ◌&&◌, ◌||◌, if◌then◌else◌}
 use Rattle.std.specs.Prelude.{List, [], ◌∷◌, ◌++◌, length, slice_index, slice_set, Option, None, Some, is_some, unwrap_or, Result}
 use Rattle.std.specs.Prelude.{Ok, Err}
-use Rattle.brd_queue.specs.Queue.{has}
 use Rattle.brd_tasks.specs.declared.status.Status.{Status}
 use Rattle.brd_tasks.specs.declared.status.Status.TheVariants as status
 use Rattle.brd_tasks.specs.declared.status.WaitReason.{WaitReason}
@@ -40,7 +39,7 @@ use Rattle.brd_objects.specs.DataQueues.{awaited_by_sender, awaited_by_receiver}
 use Rattle.brd_objects.specs.Mutexes.{is_owned_by, owned, next_owner, mutex_awaited}
 use Rattle.brd_time.specs.Time.{due_of}
 use Rattle.brd_kernel.specs.Waits.{forever, is_bad_timeout, due_after, due_by, priority_of, with_wait, released_in, broken_off}
-use Rattle.brd_kernel.specs.Waits.{reordered_in, with_released, given_in, quits_in, base_in, prioritized}
+use Rattle.brd_kernel.specs.Waits.{reordered_in, with_released, has_mutex_in, given_in, quits_in, base_in, prioritized}
 use Rattle.brd_kernel.specs.declared.processor.Processor.{Processor}
 use Rattle.brd_kernel.specs.declared.processor.Spin.{Spin}
 use Rattle.brd_kernel.specs.declared.processor.Spin.TheVariants.{Free, Held}
@@ -347,27 +346,43 @@ is_over protocol.Arrival ceiling priority = false
 is_over protocol.Priority ceiling priority = false
 is_over protocol.Inherit ceiling priority = false
 
--- it is, and a task has the mutex or waits for it
-abbrev pub is_over_in : ℕ → ℕ → Option Mutex → Bool
-is_over_in id priority None = false
-is_over_in id priority (Some m) = is_over m.protocol m.ceiling priority && (is_owned_by id m || has id m.waiters)
+abbrev pub is_over_mutex : ℕ → Option Mutex → Bool
+is_over_mutex priority None = false
+is_over_mutex priority (Some m) = is_over m.protocol m.ceiling priority
 
--- one of the mutexes with IDs below a number is such
+-- one that a task has, of those with IDs below a number
 unfoldable pub is_over_below : KernelState → ℕ → ℕ → ℕ → Bool
 is_over_below k id priority zero = false
 is_over_below k id priority (suc at) =
-    is_over_below k id priority at || is_over_in id priority (object_at k.mutexes at)
+    is_over_below k id priority at
+    || (has_mutex_in id (object_at k.mutexes at) && is_over_mutex priority (object_at k.mutexes at))
+
+-- one that a task waits for
+
+abbrev pub is_over_of : KernelState → ℕ → WaitKind → ℕ → Bool
+is_over_of k priority kind.Mutex object = is_over_mutex priority (object_at k.mutexes object)
+is_over_of k priority kind.Semaphore object = false
+is_over_of k priority kind.Flag object = false
+is_over_of k priority kind.Room object = false
+is_over_of k priority kind.Datum object = false
+
+abbrev pub is_over_for : KernelState → ℕ → Option WaitReason → Bool
+is_over_for k priority None = false
+is_over_for k priority (Some reason.Sleep) = false
+is_over_for k priority (Some reason.Delay) = false
+is_over_for k priority (Some (reason.On what object)) = is_over_of k priority what object
 
 -- a priority that a task can't have for its ceilings
-abbrev pub is_over_ceiling : KernelState → ℕ → ℕ → Bool
-is_over_ceiling k id priority = k.standard && is_over_below k id priority 256
+unfoldable pub is_over_ceiling : KernelState → ℕ → ℕ → Option WaitReason → Bool
+is_over_ceiling k id priority why =
+    k.standard && (is_over_for k priority why || is_over_below k id priority 256)
 
 -- 5 chg_pri T0, priority. Refuses: PAR not 0 to 16; ILUSE it has, or waits for, a mutex with TA_CEILING of which the
 -- ceiling is lower; OBJ dormant. The base priority is this from then on.
 abbrev pub chg_pri : KernelState → ℕ → ℕ → Row Task
 chg_pri k id priority = record (on_task k id) {
   bad_par = nat_lt 16 priority;
-  iluse = λ task. is_over_ceiling k id (priority_or_initial priority task);
+  iluse = λ task. is_over_ceiling k id (priority_or_initial priority task) (waiting_of task.status);
   obj = λ task. is_dormant task.status;
   does = λ task. ok (with_priority_in k id (priority_or_initial priority task) (waiting_of task.status));
 }
@@ -686,12 +701,16 @@ ref_dtq k id word = record (on_queue k id) {
   does = λ q. ok_with k (slice_index (queue_words q) word);
 }
 
+-- a mutex that a task can't have: it has it already, or its base priority is higher than the ceiling
+unfoldable pub may_not_have : KernelState → ℕ → Mutex → Bool
+may_not_have k id m = is_owned_by id m || is_over m.protocol m.ceiling (base_in (task_at k.tasks id))
+
 -- 77 loc_mtx M, 78 ploc_mtx M, 79 tloc_mtx M, timeout. Refuses: PAR; ILUSE the caller has it, or has a base priority
 -- that is higher than its ceiling. Takes it, or waits.
 abbrev pub tloc_mtx : KernelState → ℕ → ℕ → ℕ → Row Mutex
 tloc_mtx k caller id timeout = record (on_mutex k id) {
   bad_par = is_bad_timeout timeout;
-  iluse = λ m. is_owned_by caller m || is_over m.protocol m.ceiling (base_in (task_at k.tasks caller));
+  iluse = may_not_have k caller;
   does = λ m.
       if is_some m.owner
       then or_waits k caller (reason.On kind.Mutex id) timeout

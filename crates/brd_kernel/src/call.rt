@@ -104,6 +104,12 @@ pub enum Call {
     RefFlg(u32, u32),
     /// Tells a word of what is known of a data queue (ID, word).
     RefDtq(u32, u32),
+    /// Takes a mutex (ID, timeout).
+    TlocMtx(u32, u32),
+    /// Gives a mutex back (ID).
+    UnlMtx(u32),
+    /// Tells a word of what is known of a mutex (ID, word).
+    RefMtx(u32, u32),
 }
 
 /// A state of the processor that a call comes from.

@@ -21,7 +21,7 @@ ghost use Rattle.brd_kernel.specs.Kernel.{
   standing_on,
 };
 ghost use Rattle.brd_time.specs.Time.{last_count};
-ghost use Rattle.brd_kernel.specs.Waits.{ended_by_fault, ticked, seen_at};
+ghost use Rattle.brd_kernel.specs.Waits.{faulted_in, ended_by_fault, ticked, seen_at};
 ghost use Rattle.brd_kernel.specs.Services.{unmarked_on};
 ghost use Rattle.brd_kernel.specs.Always.{IsIdOrNone, is_task_or_none, HasContext, HasPlace};
 ghost use Rattle.brd_kernel.specs.Dispatch.{dispatched, dispatched_on, is_same_task, has_changed};
@@ -30,6 +30,7 @@ ghost use Rattle.std.specs.Borrow.{sem};
 ghost use Rattle.brd_kernel.specs.Lending.{LendsContext};
 
 mod interrupts;
+mod mutexes;
 mod objects;
 mod processors;
 mod profile;
@@ -42,9 +43,9 @@ use crate::common::Common;
 use crate::making::{idle_processors, lines_of, no_contexts, spin_locks_of};
 use crate::processor::{Executor, LineSetup, Marks, Processor, Spin, Standing, holder};
 use brd_base::{NoMemory, same_slices};
-use brd_config::{FlagConfig, QueueConfig, SemaphoreConfig, SpinLockConfig};
+use brd_config::{FlagConfig, MutexConfig, QueueConfig, SemaphoreConfig, SpinLockConfig};
 use brd_exec::Context;
-use brd_objects::{Flags, Queues, Semaphores};
+use brd_objects::{Flags, Mutexes, Queues, Semaphores};
 use brd_tasks::{Request, TaskId, TaskSetup, TaskView, Tasks};
 use brd_time::Timeouts;
 pub use saved::SavedKernel;
@@ -61,6 +62,7 @@ pub struct Kernel {
     semaphores: Semaphores,
     flags: Flags,
     queues: Queues,
+    mutexes: Mutexes,
 }
 
 impl Model for Kernel {
@@ -71,9 +73,9 @@ impl Model for Kernel {
 
     ghost Value = { KernelState };
 
-    ghost view = { λ k. kernel_of k.common k.semaphores k.flags k.queues };
+    ghost view = { λ k. kernel_of k.common k.semaphores k.flags k.queues k.mutexes };
 
-    ghost invariant = { λ k. IsCommon k.common (kernel_of k.common k.semaphores k.flags k.queues)
+    ghost invariant = { λ k. IsCommon k.common (kernel_of k.common k.semaphores k.flags k.queues k.mutexes)
         × (console_size ≤ vec_capacity k.common.console) };
 }
 
@@ -85,6 +87,7 @@ impl Drop for Kernel {
             semaphores: _,
             flags: _,
             queues: _,
+            mutexes: _,
         } = self;
     }
 }
@@ -102,12 +105,14 @@ impl Kernel {
         flags: &[FlagConfig],
         queues: &[QueueConfig],
         spin_locks: &[SpinLockConfig],
+        mutexes: &[MutexConfig],
     ) -> Result<Kernel, NoMemory>
         requires few { processors ≤ 8 }
         requires setups { All IsSetup tasks.now }
         ensures { IfOk result
             (λ kernel. kernel
-            ≡ made_kernel standard processors tasks.now lines.now semaphores.now flags.now queues.now spin_locks.now) }
+            ≡ made_kernel standard processors tasks.now lines.now semaphores.now flags.now queues.now spin_locks.now
+            mutexes.now) }
     {
         Ok(Kernel {
             common: Common {
@@ -127,6 +132,7 @@ impl Kernel {
             semaphores: Semaphores::new(alloc, semaphores)?,
             flags: Flags::new(alloc, flags)?,
             queues: Queues::new(alloc, queues)?,
+            mutexes: Mutexes::new(alloc, mutexes)?,
         })
     }
 
@@ -139,6 +145,7 @@ impl Kernel {
             semaphores: self.semaphores.try_copy()?,
             flags: self.flags.try_copy()?,
             queues: self.queues.try_copy()?,
+            mutexes: self.mutexes.try_copy()?,
         })
     }
 
@@ -163,7 +170,8 @@ impl Kernel {
     fn has_same_tables(&self, other: &Kernel) -> bool
         ensures { Decides result ((self.now.time ≡ other.now.time) × (self.now.tasks ≡ other.now.tasks)
             × (self.now.semaphores ≡ other.now.semaphores) × (self.now.flags ≡ other.now.flags)
-            × (self.now.queues ≡ other.now.queues) × (self.now.spin_locks ≡ other.now.spin_locks)) }
+            × (self.now.queues ≡ other.now.queues) × (self.now.spin_locks ≡ other.now.spin_locks)
+            × (self.now.mutexes ≡ other.now.mutexes)) }
     {
         self.common.time.same(&other.common.time)
             && self.common.tasks.same(&other.common.tasks)
@@ -173,7 +181,8 @@ impl Kernel {
     /// Whether both have the same objects.
     fn has_same_objects(&self, other: &Kernel) -> bool
         ensures { Decides result ((self.now.semaphores ≡ other.now.semaphores) × (self.now.flags ≡ other.now.flags)
-            × (self.now.queues ≡ other.now.queues) × (self.now.spin_locks ≡ other.now.spin_locks)) }
+            × (self.now.queues ≡ other.now.queues) × (self.now.spin_locks ≡ other.now.spin_locks)
+            × (self.now.mutexes ≡ other.now.mutexes)) }
     {
         self.semaphores.same(&other.semaphores)
             && self.flags.same(&other.flags)
@@ -182,6 +191,7 @@ impl Kernel {
                 self.common.spin_locks.as_slice(),
                 other.common.spin_locks.as_slice(),
             )
+            && self.mutexes.same(&other.mutexes)
     }
 
     /// Whether both have the same processors, lines and console.
@@ -377,6 +387,14 @@ impl Kernel {
     pub fn end_by_fault(&mut self, cpu: u8)
         ensures { self.new ≡ ended_by_fault self.old cpu }
     {
+        self.fault(cpu);
+        self.prioritize();
+    }
+
+    /// The same, before priorities are what they are to be.
+    fn fault(&mut self, cpu: u8)
+        ensures { self.new ≡ faulted_in self.old cpu (processor_at self.old cpu) }
+    {
         let Some(processor) = self.processor(cpu) else {
             return
         };
@@ -392,7 +410,7 @@ impl Kernel {
         }
         let Some(id) = processor.running else { return };
         self.common.tasks.clear_activation(id);
-        self.end(id);
+        self.quit(id);
         self.unmark(cpu);
     }
 
@@ -468,6 +486,7 @@ impl Kernel {
             return false;
         }
         self.end_waits();
+        self.prioritize();
         true
     }
 }

@@ -7,6 +7,7 @@ ghost use Rattle.brd_config.specs.declared.objects.SemaphoreConfig.{SemaphoreCon
 ghost use Rattle.brd_config.specs.declared.objects.FlagConfig.{FlagConfig};
 ghost use Rattle.brd_config.specs.declared.objects.QueueConfig.{QueueConfig};
 ghost use Rattle.brd_config.specs.declared.objects.SpinLockConfig.{SpinLockConfig};
+ghost use Rattle.brd_config.specs.declared.objects.MutexConfig.{MutexConfig};
 ghost use Rattle.brd_kernel.specs.declared.processor.LineSetup.{LineSetup as LineOf};
 ghost use Rattle.brd_kernel.specs.declared.processor.Processor.{Processor as ProcessorOf};
 ghost use Rattle.brd_kernel.specs.Kernel.{KernelState, processor_at, is_held};
@@ -43,8 +44,8 @@ pub fn dispatch_gives_each_its_first()
 pub fn who_waits_stands_in_its_list()
     ensures made { (standard : Bool) (processors : ℕ) (setups : List SetupOf) (lines : List LineOf)
         (semaphores : List SemaphoreConfig) (flags : List FlagConfig) (queues : List QueueConfig)
-        (spin_locks : List SpinLockConfig) →
-        WaitsAreKept (made_kernel standard processors setups lines semaphores flags queues spin_locks) }
+        (spin_locks : List SpinLockConfig) (mutexes : List MutexConfig) →
+        WaitsAreKept (made_kernel standard processors setups lines semaphores flags queues spin_locks mutexes) }
     ensures call { (k : KernelState) (cpu : ℕ) (asked : CallOf) → WaitsAreKept k →
         WaitsAreKept (serve_of k cpu asked).kernel }
     ensures tick { (k : KernelState) → WaitsAreKept k → WaitsAreKept (ticked k) }
@@ -65,8 +66,8 @@ pub fn the_profile_stays()
 pub fn a_spin_lock_has_one_holder()
     ensures made { (standard : Bool) (processors : ℕ) (setups : List SetupOf) (lines : List LineOf)
         (semaphores : List SemaphoreConfig) (flags : List FlagConfig) (queues : List QueueConfig)
-        (spin_locks : List SpinLockConfig) →
-        AreLocks (made_kernel standard processors setups lines semaphores flags queues spin_locks) }
+        (spin_locks : List SpinLockConfig) (mutexes : List MutexConfig) →
+        AreLocks (made_kernel standard processors setups lines semaphores flags queues spin_locks mutexes) }
     ensures tick { (k : KernelState) → AreLocks k → AreLocks (ticked k) }
     ensures fault { (k : KernelState) (cpu : ℕ) → AreLocks k → AreLocks (ended_by_fault k cpu) }
     ensures dispatch { (k : KernelState) → AreLocks k → AreLocks (dispatched k) }

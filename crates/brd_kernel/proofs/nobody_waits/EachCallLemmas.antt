@@ -1,11 +1,11 @@
 -- Every service call leaves nobody waiting for what is there, and the waiters of each object in order.
 use Rattle.std.proofs.Common.{◌≡◌, ℕ, ◌%◌, ◌^◌, [], ◌∷◌, ◌++◌, refl, sym, ap, ◌∙◌}
-use Rattle.std.specs.Prelude.{Bool, true, false, Option, None, Some}
+use Rattle.std.specs.Prelude.{Bool, true, false, Option, None, Some, is_some}
 use Rattle.std.proofs.lemmas.Bool.{false≢true}
 use Rattle.brd_tasks.specs.declared.status.WaitReason.TheVariants as reason
 use Rattle.brd_tasks.specs.declared.task.Task.{Task}
 use Rattle.brd_tasks.specs.Status.{waiting_of, suspended, resumed}
-use Rattle.brd_tasks.specs.Tasks.{task_at, activated, through, changed, on_processor, noted, with_wakeup, without_activation, turned, with_priority}
+use Rattle.brd_tasks.specs.Tasks.{task_at, activated, through, changed, on_processor, noted, with_wakeup, without_activation, turned}
 use Rattle.brd_objects.specs.declared.sent.Received.{Received}
 use Rattle.brd_objects.specs.Table.{object_changed}
 use Rattle.brd_objects.specs.Semaphores.{returned, first_waiter, has_one_in, taken, semaphore_awaited}
@@ -15,14 +15,16 @@ use Rattle.brd_kernel.specs.declared.processor.Processor.{Processor}
 use Rattle.brd_kernel.specs.declared.call.Call.{Call}
 use Rattle.brd_kernel.specs.Answer.{e_ok}
 use Rattle.brd_kernel.specs.Kernel.{KernelState, with_tasks, processor_at, unmarked}
-use Rattle.brd_kernel.specs.Waits.{reason_in, ended_in}
+use Rattle.brd_kernel.specs.Waits.{reason_in, quits_in}
 use Rattle.brd_kernel.specs.Services.{is_sleep, is_asleep, unmarked_on, handler_ended, serve_of, caller_on, callers_priority}
 use Rattle.brd_kernel.specs.Waiting.{SleeperIsKept, EachIsKept}
-use Rattle.brd_kernel.proofs.nobody_waits.ObjectLemmas.{returned-kept, taken-kept, semaphore-awaited, masked-kept, taken-for, flag-awaited, sent-kept, forced-kept, received-kept, sender-awaited, receiver-awaited}
+use Rattle.brd_kernel.proofs.nobody_waits.ObjectLemmas.{returned-kept, taken-kept, semaphore-awaited, masked-kept, taken-for, flag-awaited, sent-kept, forced-kept, received-kept, sender-awaited, receiver-awaited, mutex-owned, mutex-awaited}
 use Rattle.brd_kernel.proofs.who_waits.RowLemmas.{suspended-keeps, resumed-keeps}
 use Rattle.brd_kernel.proofs.nobody_waits.SleeperLemmas as sleeper
-use Rattle.brd_kernel.proofs.WalkLemmas.{Anything, Law, Lacks, No-one, No-bits, No-room, No-datum, lacked, awaiting, serve-always}
-use Rattle.brd_kernel.proofs.nobody_waits.EachLemmas.{others-kept, processor-kept, tasks-kept, semaphore-changed, flag-changed, queue-changed, released-kept, broken-kept, ended-kept, reordered-by, wait-kept, no-sleep, released-if, set-stays, handed-kept}
+use Rattle.brd_kernel.proofs.WalkLemmas.{Anything, Law, Lacks, No-one, No-bits, No-room, No-datum, lacked, awaiting, serve-always, No-mutex}
+use Rattle.brd_kernel.proofs.nobody_waits.EachLemmas.{others-kept, processor-kept, tasks-kept, semaphore-changed, flag-changed, queue-changed, released-kept, broken-kept, wait-kept, no-sleep, released-if, set-stays, handed-kept, quits-kept, priced-kept, mutex-changed, given-kept, prioritized-kept}
+use Rattle.brd_objects.specs.declared.mutex.Mutex.{Mutex}
+use Rattle.brd_objects.specs.Mutexes.{owned, mutex_awaited}
 
 -- a task that is awake has a wake-up queued
 
@@ -35,6 +37,12 @@ not-asleep : (k : KernelState) (id : ℕ) (task other : Task) → task_at k.task
     SleeperIsKept (with_wakeup true other)
 not-asleep k id task other there awake is = λ asleep.
     absurd (false≢true (sym (ap (λ row. is_sleep (reason_in row)) (sym is ∙ there) ∙ awake) ∙ asleep))
+
+-- a mutex that somebody has
+
+abbrev has_owner_in : Option Mutex → Bool
+has_owner_in None = false
+has_owner_in (Some m) = is_some m.owner
 
 -- Service calls.
 
@@ -58,6 +66,10 @@ entered-kept k caller id (No-datum q there none) was =
     let p : ℕ = callers_priority k caller in
     queue-changed (awaited_by_receiver caller p) k id (λ x at. receiver-awaited caller p x (ap receipt_in (sym at ∙ there) ∙ none)) was
 
+entered-kept k caller id (No-mutex m there held) was =
+    let p : ℕ = callers_priority k caller in
+    mutex-changed (mutex_awaited caller p) k id (λ x at. mutex-awaited caller p x (ap has_owner_in (sym at ∙ there) ∙ held)) was
+
 each-law : (k : KernelState) (cpu caller : ℕ) → EachIsKept k → Law Anything EachIsKept k cpu caller
 each-law k cpu caller was =
     record {
@@ -69,12 +81,9 @@ each-law k cpu caller was =
           (sleeper.noted-kept (with_wakeup true) k.tasks id (λ x at own. not-asleep k id task x there awake at) was.sleepers) was;
       unwakes = λ id. tasks-kept k (noted (with_wakeup false) k.tasks id)
           (sleeper.noted-kept (with_wakeup false) k.tasks id (λ x at own asleep. refl) was.sleepers) was;
-      exits = λ may. exit-kept (ended_in k caller) cpu (processor_at k cpu) (ended-kept k caller was);
-      ends = λ id task there held other. ended-kept k id was;
-      prioritizes = λ id given (task : Task) there.
-          reordered-by (with_tasks k (changed (with_priority given) k.tasks id)) id given (waiting_of task.status)
-          (tasks-kept k (changed (with_priority given) k.tasks id)
-          (sleeper.changed-kept (with_priority given) k.tasks id (λ x own. own) was.sleepers) was);
+      exits = λ may. exit-kept (quits_in k caller) cpu (processor_at k cpu) (quits-kept k caller was);
+      ends = λ id task there held other. quits-kept k id was;
+      prioritizes = λ base id priority (task : Task) there. priced-kept k base id priority (waiting_of task.status) was;
       migrates = λ id to task there held absent may. tasks-kept k (changed (on_processor to) k.tasks id)
           (sleeper.changed-kept (on_processor to) k.tasks id (λ x own. own) was.sleepers) was;
       suspends = λ id task there held may. tasks-kept k (through suspended k.tasks id)
@@ -90,7 +99,7 @@ each-law k cpu caller was =
       delays = λ due may. wait-kept k caller reason.Delay (Some due) k (no-sleep k caller reason.Delay refl) was was;
       rotates = λ on given p there. tasks-kept k (turned k.tasks on given) was.sleepers was;
       marks = λ p q there same how. processor-kept k cpu q was;
-      returns = λ p there. others-kept k (handler_ended k cpu p) refl refl refl was.sleepers was;
+      returns = λ p there. others-kept k (handler_ended k cpu p) refl refl refl refl was.sleepers was;
       signals = λ id s there. released-if (record k { semaphores = object_changed returned k.semaphores id }) (first_waiter s)
           (semaphore-changed returned k id (λ x at. returned-kept x) was);
       takes = λ id s there. semaphore-changed taken k id (λ x at. taken-kept x) was;
@@ -103,12 +112,14 @@ each-law k cpu caller was =
           (queue-changed (forced datum) k id (λ x at. forced-kept datum x) was);
       receives = λ id q (it : Received) there is. released-if (record k { queues = object_changed received k.queues id }) it.sender
           (queue-changed received k id (λ x at. received-kept x) was);
+      locks = λ id m there. mutex-changed (owned caller) k id (λ x at. mutex-owned caller x) was;
+      gives = λ id m there. given-kept k id was;
       awaits = λ id due lacks may. wait-kept k caller (reason.On (lacked lacks) id) due (awaiting k caller id lacks)
           (no-sleep k caller (reason.On (lacked lacks) id) refl) was (entered-kept k caller id lacks was);
-      writes = λ word. others-kept k (record k { console = k.console ++ word % 2 ^ 8 ∷ [] }) refl refl refl was.sleepers was;
-      ends_all = others-kept k (record k { off = true }) refl refl refl was.sleepers was;
-      sets_clock = λ clock. others-kept k (record k { clock = clock }) refl refl refl was.sleepers was;
+      writes = λ word. others-kept k (record k { console = k.console ++ word % 2 ^ 8 ∷ [] }) refl refl refl refl was.sleepers was;
+      ends_all = others-kept k (record k { off = true }) refl refl refl refl was.sleepers was;
+      sets_clock = λ clock. others-kept k (record k { clock = clock }) refl refl refl refl was.sleepers was;
     }
 
 pub serve-kept : (k : KernelState) (cpu : ℕ) (c : Call) → EachIsKept k → EachIsKept (serve_of k cpu c).kernel
-serve-kept k cpu c was = serve-always EachIsKept k cpu (each-law k cpu (caller_on k cpu) was) c
+serve-kept k cpu c was = serve-always EachIsKept k cpu (each-law k cpu (caller_on k cpu) was) prioritized-kept c

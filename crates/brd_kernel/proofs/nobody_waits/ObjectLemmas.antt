@@ -1,6 +1,6 @@
 -- What each operation on an object makes of its waiters: they stay in order, and none of them waits for what is there.
 use Rattle.std.proofs.Common.{◌≡◌, ◌-◌, ℕ, List, [], ◌∷◌, ◌++◌, drop, length, refl, sym, ap, subst, ◌∙◌, arith, length-append}
-use Rattle.std.specs.Prelude.{◌≢◌, ◌==◌, nat_lt, Bool, true, false, not, if◌then◌else◌, Option, None, Some}
+use Rattle.std.specs.Prelude.{◌≢◌, ◌==◌, nat_lt, Bool, true, false, not, if◌then◌else◌, Option, None, Some, is_some}
 use Rattle.std.proofs.lemmas.Bool.{true≢false, false≢true}
 use Rattle.std.proofs.lemmas.Bool.Decides.{nat_tests}
 use Rattle.brd_queue.specs.declared.entry.QueueEntry.{QueueEntry}
@@ -18,10 +18,12 @@ use Rattle.brd_objects.specs.Waiters.{satisfies}
 use Rattle.brd_objects.specs.Flags.{joined, masked, pattern_left, pattern_for, taken_for, flag_awaited, flag_left, flag_reordered, with_all_released}
 use Rattle.brd_objects.specs.DataQueues.{DataQueueState, has_room, sent_to, sent, outcome_to, outcome, with_room_for, with_room, forced, received_by, received, receipt_by, receipt, awaited_by_sender, awaited_by_receiver, data_queue_left, data_queue_reordered}
 use Rattle.brd_objects.proofs.BitLemmas.{HasBits}
-use Rattle.brd_kernel.specs.Waiting.{SemaphoreIsKept, FlagIsKept, QueueIsKept}
+use Rattle.brd_kernel.specs.Waiting.{SemaphoreIsKept, FlagIsKept, QueueIsKept, MutexIsKept}
 use Rattle.brd_kernel.proofs.who_waits.ListLemmas.{either}
 use Rattle.brd_kernel.proofs.nobody_waits.OrderLemmas.{in-placed, in-without, in-reordered, in-others, in-kept}
 use Rattle.brd_kernel.proofs.nobody_waits.WantLemmas.{IsUnsatisfied, want-kept, want-none, fewer, unreleased}
+use Rattle.brd_objects.specs.declared.mutex.Mutex.{Mutex}
+use Rattle.brd_objects.specs.Mutexes.{protocol_order, owned, given_to, given, mutex_awaited, mutex_left, mutex_reordered}
 
 not-both : {A : Type 0} → (x : A) (xs ys : List A) → ys ≡ x ∷ xs → ys ≡ [] → ⊥
 not-both x xs ys some none = omega (arith, ap length some, ap length none)
@@ -66,6 +68,42 @@ pub semaphore-reordered : (id priority : ℕ) (s : Semaphore) → SemaphoreIsKep
 semaphore-reordered id priority s was = record {
   ordered = in-reordered s.order id priority s.waiters was.ordered;
   lacking = λ has. nobody-reordered s.order id priority s.waiters (was.lacking has);
+}
+
+-- Mutexes.
+
+no-owner : (owner : Option ℕ) → is_some owner ≡ true → owner ≡ None → ⊥
+no-owner owner held none = false≢true (sym (ap is_some none) ∙ held)
+
+pub mutex-owned : (id : ℕ) (m : Mutex) → MutexIsKept m → MutexIsKept (owned id m)
+mutex-owned id m was = record { ordered = was.ordered; lacking = λ none. absurd (no-owner (Some id) refl none) }
+
+given-by : (m : Mutex) (ws : List Plain) → m.waiters ≡ ws → MutexIsKept m → MutexIsKept (given_to m ws)
+given-by m [] is was = record { ordered = was.ordered; lacking = λ none. is }
+given-by m (first ∷ others) is was = record {
+  ordered = in-others (protocol_order m.protocol) first others (subst (λ ws. MutexIsKept (record m { waiters = ws })) is was).ordered;
+  lacking = λ none. absurd (no-owner (Some first.id) refl none);
+}
+
+pub mutex-given : (m : Mutex) → MutexIsKept m → MutexIsKept (given m)
+mutex-given m was = given-by m m.waiters refl was
+
+pub mutex-awaited : (id priority : ℕ) (m : Mutex) → is_some m.owner ≡ true → MutexIsKept m → MutexIsKept (mutex_awaited id priority m)
+mutex-awaited id priority m held was = record {
+  ordered = in-placed (protocol_order m.protocol) (record { id = id; priority = priority; wanted = tt }) m.waiters was.ordered;
+  lacking = λ none. absurd (no-owner m.owner held none);
+}
+
+pub mutex-left : (id : ℕ) (m : Mutex) → MutexIsKept m → MutexIsKept (mutex_left id m)
+mutex-left id m was = record {
+  ordered = in-without (protocol_order m.protocol) id m.waiters was.ordered;
+  lacking = λ none. ap (without id) (was.lacking none);
+}
+
+pub mutex-reordered : (id priority : ℕ) (m : Mutex) → MutexIsKept m → MutexIsKept (mutex_reordered id priority m)
+mutex-reordered id priority m was = record {
+  ordered = in-reordered (protocol_order m.protocol) id priority m.waiters was.ordered;
+  lacking = λ none. nobody-reordered (protocol_order m.protocol) id priority m.waiters (was.lacking none);
 }
 
 -- Event flags.

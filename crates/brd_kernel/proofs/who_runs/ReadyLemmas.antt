@@ -15,11 +15,12 @@ use Rattle.brd_tasks.specs.declared.task.Task.{Task}
 use Rattle.brd_tasks.specs.declared.task.Request.{Request}
 use Rattle.brd_tasks.specs.declared.task.Request.TheVariants.{Assigned, On}
 use Rattle.brd_tasks.specs.Status.{is_dormant, is_ready, blocked, released, suspended, resumed}
-use Rattle.brd_tasks.specs.Tasks.{TaskTable, task_at, ready_on, left, started, opening_of, processor_of, starts, placed, patched, with_context, where_there, activated, ended_by, ended, put_into, through, answered, context_at, released_to, released_with, changed, with_priority, on_processor, noted, with_wakeup, without_activation, turned}
+use Rattle.brd_tasks.specs.Tasks.{TaskTable, task_at, ready_on, left, started, opening_of, processor_of, starts, placed, patched, with_context, where_there, activated, ended_by, ended, put_into, through, answered, context_at, released_to, released_with, changed, on_processor, noted, with_wakeup, without_activation, turned}
 use Rattle.brd_tasks.specs.Ready.{IsProcessor, IsRequest, IsQueued, IsTask, IsRow, ready_priority}
 use Rattle.brd_tasks.proofs.Consistency.{known_small, left-new, consistent-placed, consistent-patched, consistent-turned}
 use Rattle.brd_kernel.specs.Running.{is_ready_on, IsOrderly}
 use Rattle.brd_kernel.proofs.who_waits.ListLemmas.{written-at, same-number, apart-placed}
+use Rattle.brd_kernel.proofs.PricedLemmas.{priced}
 
 -- The tasks stay consistent, and each that is ready on a processor stays so.
 pub record KeepsReady (t new : TaskTable) : Type 0 where
@@ -349,15 +350,15 @@ released-keeps t id answer second was =
 
 -- Priorities, processors and turns.
 
-priority-good : (task : Task) (priority : ℕ) → IsTask task → IsTask (with_priority priority task)
-priority-good task priority was = record { processor = was.processor; queued = was.queued; idle = was.idle }
+priority-good : (task : Task) (base : Task → ℕ) (priority : ℕ) → IsTask task → IsTask (priced base priority task)
+priority-good task base priority was = record { processor = was.processor; queued = was.queued; idle = was.idle }
 
-pub priority-keeps : (t : TaskTable) (id priority : ℕ) → IsOrderly t → KeepsReady t (changed (with_priority priority) t id)
-priority-keeps t id priority was =
-    there-keeps t id (λ task. placed t id (with_priority priority task)) (task_at t id) was refl
-    (λ task there. wrote-all t (placed t id (with_priority priority task)) id task (with_priority priority task) there (λ cpu ready. ready)
-    (place t id task (with_priority priority task) was there (priority-good task priority (row-of t id task was there)))
-    (wrote-row t id task (with_priority priority task) there))
+pub priority-keeps : (t : TaskTable) (base : Task → ℕ) (id priority : ℕ) → IsOrderly t → KeepsReady t (changed (priced base priority) t id)
+priority-keeps t base id priority was =
+    there-keeps t id (λ task. placed t id (priced base priority task)) (task_at t id) was refl
+    (λ task there. wrote-all t (placed t id (priced base priority task)) id task (priced base priority task) there (λ cpu ready. ready)
+    (place t id task (priced base priority task) was there (priority-good task base priority (row-of t id task was there)))
+    (wrote-row t id task (priced base priority task) there))
 
 migrated-good : (task : Task) (cpu : ℕ) → IsTask task → IsProcessor cpu → IsTask (on_processor cpu task)
 migrated-good task cpu was good = record { processor = good; queued = was.queued; idle = was.idle }

@@ -1,6 +1,6 @@
 -- Every service call, tick and exception leaves the running task of each held processor ready there.
 use Rattle.std.proofs.Common.{◌≡◌, ℕ, ◌%◌, ◌^◌, List, [], ◌∷◌, ◌++◌, refl, sym, ap, subst, ◌∙◌, arith}
-use Rattle.std.specs.Prelude.{Bool, true, false, not, ◌==◌, ◌&&◌, ◌||◌, if◌then◌else◌, Option, None, Some, is_some, unwrap_or}
+use Rattle.std.specs.Prelude.{Bool, true, false, not, ◌==◌, ◌&&◌, ◌||◌, if◌then◌else◌, Option, None, Some, is_some, unwrap_or, slice_index_or}
 use Rattle.std.proofs.lemmas.Bool.{false≢true}
 use Rattle.std.proofs.lemmas.Bool.Decides.{nat_tests}
 use Rattle.brd_tasks.specs.declared.status.WaitReason.{WaitReason}
@@ -10,7 +10,7 @@ use Rattle.brd_tasks.specs.declared.task.Request.{Request}
 use Rattle.brd_tasks.specs.declared.task.Request.TheVariants.{Assigned, On}
 use Rattle.brd_tasks.specs.Ready.{IsProcessor, IsRequest}
 use Rattle.brd_tasks.specs.Status.{waiting_of, is_ready, blocked, suspended, resumed}
-use Rattle.brd_tasks.specs.Tasks.{TaskTable, task_at, activated, through, changed, with_priority, on_processor, noted, with_wakeup, without_activation, turned}
+use Rattle.brd_tasks.specs.Tasks.{TaskTable, task_at, activated, through, changed, on_processor, noted, with_wakeup, without_activation, turned, released_with}
 use Rattle.brd_time.specs.Time.{Time, with_due, advanced, due_from}
 use Rattle.brd_objects.specs.declared.semaphore.Semaphore.{Semaphore}
 use Rattle.brd_objects.specs.declared.flag.Flag.{Flag}
@@ -26,16 +26,19 @@ use Rattle.brd_kernel.specs.declared.call.Call.{Call}
 use Rattle.brd_kernel.specs.Answer.{e_ok}
 use Rattle.brd_kernel.specs.Kernel.{KernelState, with_tasks, with_processor, processor_at, is_held, running_in, running_on, unmarked, with_pending, handles, accepted_line}
 use Rattle.brd_kernel.specs.Row.{is_absent}
-use Rattle.brd_kernel.specs.Waits.{can_wait, with_wait, released_in, reason_of, unlisted, broken_off, ended_in, reordered_in, answer_by, timed_out, all_timed_out, ticked_on, faulted_task, faulted_in, ended_by_fault}
+use Rattle.brd_kernel.specs.Waits.{can_wait, with_wait, released_in, reason_of, unlisted, broken_off, ended_in, reordered_in, answer_by, timed_out, all_timed_out, ticked_on, faulted_task, faulted_in, ended_by_fault, with_released, given_in, all_given_in, quits_in, prioritized}
 use Rattle.brd_kernel.specs.Dispatch.{is_same_task}
-use Rattle.brd_kernel.specs.Services.{runs_held, is_held_elsewhere, is_no_processor, with_released, with_all_released_in, with_satisfied_of, with_satisfied_released, handed_over, with_priority_in, unmarked_on, handler_ended, serve_of, caller_on}
-use Rattle.brd_kernel.specs.Running.{is_ready_on, IsRunning}
+use Rattle.brd_kernel.specs.Services.{runs_held, is_held_elsewhere, is_no_processor, with_all_released_in, with_satisfied_of, with_satisfied_released, handed_over, unmarked_on, handler_ended, serve_of, caller_on}
+use Rattle.brd_kernel.specs.Running.{is_ready_on, IsRunning, IsOrderly}
 use Rattle.brd_kernel.proofs.who_waits.ListLemmas.{same-number}
 use Rattle.brd_kernel.proofs.WaitLemmas.{unlisted-only, reordered-only}
 use Rattle.brd_kernel.proofs.WalkLemmas.{IsOfBoard, Fact, Unheld, OfTask, HoldsNone, May, Law, lacked, awaiting, serve-leaves}
-use Rattle.brd_kernel.proofs.SameLemmas.{same-entered}
+use Rattle.brd_kernel.proofs.SameLemmas.{same-entered, same-all_given}
 use Rattle.brd_kernel.proofs.who_runs.ReadyLemmas.{KeepsReady, activated-keeps, ended-others, wakeup-keeps, cleared-keeps, blocked-active, suspended-active, through-others, resumed-keeps, released-keeps, priority-keeps, migrated-others, turned-keeps}
-use Rattle.brd_kernel.proofs.who_runs.RunningLemmas.{held_in, HoldsReady, IsntHeld, runs-hold, tasks-run, parts-run, marked-runs, others-hold, free-isnt_held, exit-holds, number-there}
+use Rattle.brd_kernel.proofs.who_runs.RunningLemmas.{ready-hold, held_in, HoldsReady, IsntHeld, runs-hold, tasks-run, parts-run, marked-runs, others-hold, free-isnt_held, exit-holds, number-there}
+use Rattle.brd_objects.specs.Mutexes.{owned, given, next_owner_in}
+use Rattle.brd_kernel.proofs.PricedLemmas.{priced, priced_in}
+use Rattle.brd_kernel.proofs.SettledLemmas.{Settles, all-given, all-prioritized}
 
 -- Waits that end, priorities and ticks: whoever runs goes on.
 
@@ -55,20 +58,16 @@ all-timed-run : (k : KernelState) (ids : List ℕ) → IsRunning k → IsRunning
 all-timed-run k [] was = was
 all-timed-run k (id ∷ ids) was = all-timed-run (timed_out k id) ids (broken-runs k id (answer_by (reason_of k id)) was)
 
-pub ticked-runs : (k : KernelState) → IsRunning k → IsRunning (ticked_on k (advanced k.time))
-ticked-runs k was =
-    let time : Time = advanced k.time in
-    all-timed-run (record k { time = time }) (due_from time 0) (parts-run k (record k { time = time }) refl refl was)
-
 reordered-runs : (k : KernelState) (id priority : ℕ) (why : Option WaitReason) → IsRunning k → IsRunning (reordered_in k id priority why)
 reordered-runs k id priority why was =
     let only = reordered-only k id priority why in
     parts-run k (reordered_in k id priority why) only.processors only.tasks was
 
-prioritized-runs : (k : KernelState) (id priority : ℕ) (why : Option WaitReason) → IsRunning k → IsRunning (with_priority_in k id priority why)
-prioritized-runs k id priority why was =
-    let new : KernelState = with_tasks k (changed (with_priority priority) k.tasks id) in
-    reordered-runs new id priority why (tasks-run k new refl (priority-keeps k.tasks id priority was.tasks) was)
+priced-runs : (k : KernelState) (base : Task → ℕ) (id priority : ℕ) (why : Option WaitReason) → IsRunning k →
+    IsRunning (priced_in k base id priority why)
+priced-runs k base id priority why was =
+    let new : KernelState = with_tasks k (changed (priced base priority) k.tasks id) in
+    reordered-runs new id priority why (tasks-run k new refl (priority-keeps k.tasks base id priority was.tasks) was)
 
 released-if-runs : (k : KernelState) (first : Option ℕ) → IsRunning k → IsRunning (with_released k first)
 released-if-runs k None was = was
@@ -89,6 +88,56 @@ handed-runs : (k : KernelState) (datum : ℕ) (what : Sent) → IsRunning k → 
 handed-runs k datum (Handed id) was = released-runs k id e_ok (Some datum) was
 handed-runs k datum Stored was = was
 handed-runs k datum Full was = was
+
+-- Mutexes are given back, and priorities given: whoever runs goes on.
+
+given-runs : (k : KernelState) (at : ℕ) → IsRunning k → IsRunning (given_in k at)
+given-runs k at was =
+    let new : KernelState = record k { mutexes = object_changed given k.mutexes at } in
+    released-if-runs new (next_owner_in (object_at k.mutexes at)) (parts-run k new refl refl was)
+
+running-settles : Settles IsRunning
+running-settles = record {
+  gives = λ k at m there was. given-runs k at was;
+  prices = λ k base id priority (task : Task) there was. priced-runs k base id priority (waiting_of task.status) was;
+}
+
+-- the same where the running task of each held processor is ready
+
+keeps-hold : (k new : KernelState) → new.processors ≡ k.processors → KeepsReady k.tasks new.tasks → HoldsReady k → HoldsReady new
+keeps-hold k new same keeps was = ready-hold k new same keeps.orderly keeps.ready was
+
+released-holds : (k new : KernelState) (first : Option ℕ) → new.processors ≡ k.processors → new.tasks ≡ k.tasks → HoldsReady k →
+    HoldsReady (with_released new first)
+released-holds k new None same tasks was = ready-hold k new same (subst IsOrderly (sym tasks) was.tasks)
+    (λ id cpu ready. ap (λ t. is_ready_on (task_at t id) cpu) tasks ∙ ready) was
+released-holds k new (Some id) same tasks was =
+    keeps-hold k (released_in new id e_ok None) same
+    (subst (λ t. KeepsReady k.tasks (released_with t id e_ok None)) (sym tasks) (released-keeps k.tasks id e_ok None was.tasks)) was
+
+priced-holds : (k : KernelState) (base : Task → ℕ) (id priority : ℕ) (why : Option WaitReason) → HoldsReady k →
+    HoldsReady (priced_in k base id priority why)
+priced-holds k base id priority why was =
+    let new : KernelState = with_tasks k (changed (priced base priority) k.tasks id) in
+    let only = reordered-only new id priority why in
+    keeps-hold k (priced_in k base id priority why) only.processors
+    (subst (KeepsReady k.tasks) (sym only.tasks) (priority-keeps k.tasks base id priority was.tasks)) was
+
+holding-settles : Settles HoldsReady
+holding-settles = record {
+  gives = λ k at m there was.
+      released-holds k (record k { mutexes = object_changed given k.mutexes at }) (next_owner_in (object_at k.mutexes at)) refl refl was;
+  prices = λ k base id priority (task : Task) there was. priced-holds k base id priority (waiting_of task.status) was;
+}
+
+prioritized-holds : (k : KernelState) → HoldsReady k → HoldsReady (prioritized k)
+prioritized-holds k was = all-prioritized HoldsReady k holding-settles was
+
+pub ticked-runs : (k : KernelState) → IsRunning k → IsRunning (ticked_on k (advanced k.time))
+ticked-runs k was =
+    let time : Time = advanced k.time in
+    all-prioritized IsRunning (all_timed_out (record k { time = time }) (due_from time 0)) running-settles
+    (all-timed-run (record k { time = time }) (due_from time 0) (parts-run k (record k { time = time }) refl refl was))
 
 -- Interrupts.
 
@@ -114,14 +163,26 @@ pub none-held : (handling locked disabled stopped : Bool) → handling ≡ false
     (handling || locked || disabled || stopped) ≡ false
 none-held handling locked disabled stopped one two three four = grind (arith, one, two, three, four)
 
+-- a task that ends gives its mutexes back before
+
+given-run : (k : KernelState) (id : ℕ) → IsRunning k → IsRunning (all_given_in k id)
+given-run k id was = all-given IsRunning k id running-settles was
+
+quit-holds : (k : KernelState) (cpu id : ℕ) (p : Processor) → processor_at k cpu ≡ Some p → p.running ≡ Some id →
+    is_held (unmarked p) ≡ false → IsRunning k → HoldsReady (with_processor (quits_in k id) cpu (unmarked p))
+quit-holds k cpu id p there runs free was =
+    let given_k : KernelState = all_given_in k id in
+    let on : IsRunning given_k = given-run k id was in
+    exit-holds given_k (ended_in given_k id) cpu id p (ap (λ ps. slice_index_or ps cpu None) (same-all_given k id).processors ∙ there) runs free
+    (ended-processors given_k id) (ended-others given_k.tasks id on.tasks) on
+
 faulted-task-holds : (k : KernelState) (cpu : ℕ) (p : Processor) (running : Option ℕ) → processor_at k cpu ≡ Some p → p.running ≡ running →
     is_some p.handling ≡ false → p.stopped ≡ false → IsRunning k → HoldsReady (faulted_task k cpu p running)
 faulted-task-holds k cpu p None there runs handling stopped was = runs-hold k was
 faulted-task-holds k cpu p (Some id) there runs handling stopped was =
     let on : KernelState = with_tasks k (noted without_activation k.tasks id) in
     let on_runs : IsRunning on = tasks-run k on refl (cleared-keeps k.tasks id was.tasks) was in
-    exit-holds on (ended_in on id) cpu id p there runs (none-held (is_some p.handling) false false p.stopped handling refl refl stopped)
-    (ended-processors on id) (ended-others on.tasks id on_runs.tasks) on_runs
+    quit-holds on cpu id p there runs (none-held (is_some p.handling) false false p.stopped handling refl refl stopped) on_runs
 
 faulted-by : (handling : Bool) (k : KernelState) (cpu : ℕ) (p : Processor) → is_some p.handling ≡ handling → processor_at k cpu ≡ Some p →
     p.stopped ≡ false → IsRunning k →
@@ -133,7 +194,8 @@ faulted-by false k cpu p test there stopped was = faulted-task-holds k cpu p p.r
 pub fault-holds : (k : KernelState) (cpu : ℕ) (p : Processor) → processor_at k cpu ≡ Some p → p.stopped ≡ false → IsRunning k →
     HoldsReady (ended_by_fault k cpu)
 fault-holds k cpu p there stopped was =
-    subst (λ found. HoldsReady (faulted_in k cpu found)) (sym there) (faulted-by (is_some p.handling) k cpu p refl there stopped was)
+    prioritized-holds (faulted_in k cpu (processor_at k cpu))
+    (subst (λ found. HoldsReady (faulted_in k cpu found)) (sym there) (faulted-by (is_some p.handling) k cpu p refl there stopped was))
 
 -- What the gate has shown of a call that it lets through.
 
@@ -249,11 +311,19 @@ ended-handler-holds k cpu p there was =
     parts-hold marked (handler_ended k cpu p) refl refl (marked-runs k cpu p (record p { handling = None }) there refl was)
 
 ext-holds : (k : KernelState) (cpu caller : ℕ) (p : Processor) → processor_at k cpu ≡ Some p → IsTaskOf p caller → IsRunning k →
-    HoldsReady (unmarked_on (ended_in k caller) cpu (processor_at k cpu))
+    HoldsReady (unmarked_on (quits_in k caller) cpu (processor_at k cpu))
 ext-holds k cpu caller p there may was =
-    subst (λ found. HoldsReady (unmarked_on (ended_in k caller) cpu found)) (sym there)
-    (exit-holds k (ended_in k caller) cpu caller p there may.running may.unmarked_free (ended-processors k caller)
-    (ended-others k.tasks caller was.tasks) was)
+    subst (λ found. HoldsReady (unmarked_on (quits_in k caller) cpu found)) (sym there)
+    (quit-holds k cpu caller p there may.running may.unmarked_free was)
+
+ter-holds : (k : KernelState) (id : ℕ) → IsntHeld k id → IsRunning k → HoldsReady (quits_in k id)
+ter-holds k id free was =
+    let given_k : KernelState = all_given_in k id in
+    let same : given_k.processors ≡ k.processors = (same-all_given k id).processors in
+    let on : IsRunning given_k = given-run k id was in
+    others-hold given_k (ended_in given_k id) id (ended-processors given_k id) (ended-others given_k.tasks id on.tasks)
+    (λ cpu held runs. free cpu (ap (λ ps. held_in (slice_index_or ps cpu None)) (sym same) ∙ held)
+    (ap (λ ps. running_in (slice_index_or ps cpu None)) (sym same) ∙ runs)) on
 
 holds-law : (k : KernelState) (cpu : ℕ) (p : Processor) → processor_at k cpu ≡ Some p → IsRunning k →
     Law (known_of p (caller_on k cpu)) HoldsReady k cpu (caller_on k cpu)
@@ -267,10 +337,9 @@ holds-law k cpu p found was =
       wakes = λ id task there awake. tasks-hold k (noted (with_wakeup true) k.tasks id) (wakeup-keeps true k.tasks id was.tasks) was;
       unwakes = λ id. tasks-hold k (noted (with_wakeup false) k.tasks id) (wakeup-keeps false k.tasks id was.tasks) was;
       exits = λ may. ext-holds k cpu caller p found may was;
-      ends = λ id task there held other. others-hold k (ended_in k id) id (ended-processors k id) (ended-others k.tasks id was.tasks)
-          (other-isnt_held k cpu id task there held other was) was;
-      prioritizes = λ id priority (task : Task) there. runs-hold (with_priority_in k id priority (waiting_of task.status))
-          (prioritized-runs k id priority (waiting_of task.status) was);
+      ends = λ id task there held other. ter-holds k id (other-isnt_held k cpu id task there held other was) was;
+      prioritizes = λ base id priority (task : Task) there. runs-hold (priced_in k base id priority (waiting_of task.status))
+          (priced-runs k base id priority (waiting_of task.status) was);
       migrates = λ id to task there held absent may. others-hold k (with_tasks k (changed (on_processor to) k.tasks id)) id refl
           (migrated-others k.tasks id to was.tasks (number-named k to absent was)) (named-isnt_held k cpu id task p there held found may was) was;
       suspends = λ id task there held may. others-hold k (with_tasks k (through suspended k.tasks id)) id refl
@@ -297,6 +366,8 @@ holds-law k cpu p found was =
           runs-hold (handed_over new datum (forced_outcome q)) (handed-runs new datum (forced_outcome q) (parts-run k new refl refl was));
       receives = λ id q (it : Received) there is. let new : KernelState = record k { queues = object_changed received k.queues id } in
           runs-hold (with_released new it.sender) (released-if-runs new it.sender (parts-run k new refl refl was));
+      locks = λ id m there. parts-hold k (record k { mutexes = object_changed (owned caller) k.mutexes id }) refl refl was;
+      gives = λ id m there. runs-hold (given_in k id) (given-runs k id was);
       awaits = λ id due lacks may. wait-holds k cpu caller (reason.On (lacked lacks) id) due (awaiting k caller id lacks) p
           (same-entered k caller id lacks).processors found may was;
       writes = λ word. parts-hold k (record k { console = k.console ++ word % 2 ^ 8 ∷ [] }) refl refl was;
@@ -307,4 +378,4 @@ holds-law k cpu p found was =
 -- a call that the gate lets through
 pub serve-holds : (k : KernelState) (cpu : ℕ) (p : Processor) (c : Call) → processor_at k cpu ≡ Some p → MayServe p (caller_on k cpu) c →
     IsRunning k → HoldsReady (serve_of k cpu c).kernel
-serve-holds k cpu p c there may was = serve-leaves HoldsReady k cpu (holds-law k cpu p there was) c may
+serve-holds k cpu p c there may was = serve-leaves HoldsReady k cpu (holds-law k cpu p there was) prioritized-holds c may

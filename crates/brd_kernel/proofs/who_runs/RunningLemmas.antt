@@ -118,9 +118,9 @@ tasks-run k new same keeps was = record {
 pub parts-run : (k new : KernelState) → new.processors ≡ k.processors → new.tasks ≡ k.tasks → IsRunning k → IsRunning new
 parts-run k new same tasks was = tasks-run k new same (subst (KeepsReady k.tasks) (sym tasks) (all-keep k.tasks was.tasks)) was
 
-parts-hold : (k new : KernelState) → new.processors ≡ k.processors → IsOrderly new.tasks →
+pub ready-hold : (k new : KernelState) → new.processors ≡ k.processors → IsOrderly new.tasks →
     ((id cpu : ℕ) → is_ready_on (task_at k.tasks id) cpu ≡ true → is_ready_on (task_at new.tasks id) cpu ≡ true) → HoldsReady k → HoldsReady new
-parts-hold k new same orderly keeps was = record {
+ready-hold k new same orderly keeps was = record {
   processors = ap length same ∙ was.processors;
   nobody = ap (λ ps. slice_index_or ps 0 None) same ∙ was.nobody;
   tasks = orderly;
@@ -136,9 +136,9 @@ context-runs k cpu (executor.Task id) s was =
 
 pub context-holds : (k : KernelState) (cpu : ℕ) (who : Executor) (s : State) → HoldsReady k → HoldsReady (with_context_of k cpu who s)
 context-holds k cpu executor.Handler s was =
-    parts-hold k (with_context_of k cpu executor.Handler s) refl was.tasks (λ at other is. is) was
+    ready-hold k (with_context_of k cpu executor.Handler s) refl was.tasks (λ at other is. is) was
 context-holds k cpu (executor.Task id) s was =
-    parts-hold k (with_context_of k cpu (executor.Task id) s) refl (context-orderly k.tasks id s was.tasks) (λ at other is. is) was
+    ready-hold k (with_context_of k cpu (executor.Task id) s) refl (context-orderly k.tasks id s was.tasks) (λ at other is. is) was
 
 -- A processor is marked, or handles an interrupt or ends to.
 

@@ -21,14 +21,16 @@ use Rattle.brd_objects.specs.Flags.{pattern_left, taken_for, all_released, with_
 use Rattle.brd_objects.specs.DataQueues.{DataQueueState, has_room, sent_to, sent, outcome_to, outcome, with_room_for, with_room, forced, forced_outcome, received_by, received, receipt_by, receipt}
 use Rattle.brd_kernel.specs.Answer.{e_ok}
 use Rattle.brd_kernel.specs.Kernel.{KernelState}
-use Rattle.brd_kernel.specs.Waits.{released_in}
-use Rattle.brd_kernel.specs.Services.{with_released, with_all_released_in, with_satisfied_of, handed_over}
-use Rattle.brd_kernel.specs.Waiting.{plain, semaphore_waiters, flag_waiters, senders, receivers, standing_for}
+use Rattle.brd_kernel.specs.Waits.{released_in, with_released, given_in}
+use Rattle.brd_kernel.specs.Services.{with_all_released_in, with_satisfied_of, handed_over}
+use Rattle.brd_kernel.specs.Waiting.{plain, semaphore_waiters, flag_waiters, senders, receivers, standing_for, mutex_waiters}
 use Rattle.brd_kernel.proofs.who_waits.ListLemmas.{either, among, apart-plain, apart-wanting, apart-kept, has-plain, priority_in-plain, priority_in-kept, released-there}
 use Rattle.brd_kernel.proofs.who_waits.StandingLemmas.{stands_in, StandsIn}
 use Rattle.brd_kernel.proofs.who_waits.KeepingLemmas.{by-leaving-one}
-use Rattle.brd_kernel.proofs.who_waits.WaitersLemmas.{semaphore-rewrites, flag-rewrites, sender-rewrites, receiver-rewrites}
+use Rattle.brd_kernel.proofs.who_waits.WaitersLemmas.{semaphore-rewrites, flag-rewrites, sender-rewrites, receiver-rewrites, mutex-rewrites}
 use Rattle.brd_kernel.proofs.who_waits.WaitingLemmas.{released-keep, first-out, unchanged-keeps}
+use Rattle.brd_objects.specs.declared.mutex.Mutex.{Mutex}
+use Rattle.brd_objects.specs.Mutexes.{given_to, given, next_owner_in}
 
 -- A wait for time has no list.
 
@@ -67,6 +69,32 @@ returned-keeps k id s (first ∷ others) there is was =
     (λ other. semaphore-rewrites returned k id s there other
     ∙ ap (λ l. if stands_in (reason.On kind.Semaphore id) other then (returned_to s l).waiters else standing_for k other) is)
     (ap semaphore_waiters there ∙ is) was)
+
+-- Mutexes.
+
+pub mutex-stays : (f : Mutex → Mutex) (k : KernelState) (id : ℕ) (m : Mutex) → object_at k.mutexes id ≡ Some m →
+    (f m).waiters ≡ m.waiters → StandsIn [] k →
+    StandsIn [] (record k { mutexes = object_changed f k.mutexes id })
+mutex-stays f k id m there same was =
+    unchanged-keeps k (standing_for (record k { mutexes = object_changed f k.mutexes id })) (reason.On kind.Mutex id) (f m).waiters
+    (mutex-rewrites f k id m there) (same ∙ ap mutex_waiters (sym there)) was
+
+handed-on : (k : KernelState) (id : ℕ) (m : Mutex) (ws : List Plain) → object_at k.mutexes id ≡ Some m → m.waiters ≡ ws →
+    StandsIn [] k →
+    StandsIn [] (with_released (record k { mutexes = object_changed given k.mutexes id }) (option_map (λ e. e.id) (first_of ws)))
+handed-on k id m [] there is was = mutex-stays given k id m there (ap (λ l. (given_to m l).waiters) is) was
+handed-on k id m (first ∷ others) there is was =
+    let new : KernelState = record k { mutexes = object_changed given k.mutexes id } in
+    released-keep new first.id e_ok None []
+    (first-out k (standing_for new) (reason.On kind.Mutex id) first others
+    (λ other. mutex-rewrites given k id m there other
+    ∙ ap (λ l. if stands_in (reason.On kind.Mutex id) other then (given_to m l).waiters else standing_for k other) is)
+    (ap mutex_waiters there ∙ is) was)
+
+pub given-keeps : (k : KernelState) (id : ℕ) (m : Mutex) → object_at k.mutexes id ≡ Some m → StandsIn [] k → StandsIn [] (given_in k id)
+given-keeps k id m there was =
+    subst (λ found. StandsIn [] (with_released (record k { mutexes = object_changed given k.mutexes id }) (next_owner_in found))) (sym there)
+    (handed-on k id m m.waiters there refl was)
 
 -- Event flags.
 

@@ -20,6 +20,7 @@ use Rattle.brd_config.specs.declared.objects.SemaphoreConfig.{SemaphoreConfig}
 use Rattle.brd_config.specs.declared.objects.FlagConfig.{FlagConfig}
 use Rattle.brd_config.specs.declared.objects.QueueConfig.{QueueConfig}
 use Rattle.brd_config.specs.declared.objects.SpinLockConfig.{SpinLockConfig}
+use Rattle.brd_config.specs.declared.objects.MutexConfig.{MutexConfig}
 use Rattle.brd_objects.specs.declared.want.Want.{Want}
 use Rattle.brd_objects.specs.QueueOrder.{order_of}
 use Rattle.brd_objects.specs.Table.{object_at, made_at, made_below}
@@ -29,12 +30,13 @@ use Rattle.brd_objects.specs.DataQueues.{data_queue_of}
 use Rattle.brd_kernel.specs.declared.processor.LineSetup.{LineSetup}
 use Rattle.brd_kernel.specs.Kernel.{KernelState, with_tasks}
 use Rattle.brd_kernel.specs.Making.{made_kernel}
-use Rattle.brd_kernel.specs.Waiting.{semaphore_waiters, flag_waiters, senders, receivers, standing_for, AreInOrder, SemaphoreIsKept, FlagIsKept, QueueIsKept, SleeperIsKept, EachIsKept, WaitsAreKept}
+use Rattle.brd_kernel.specs.Waiting.{semaphore_waiters, flag_waiters, senders, receivers, standing_for, AreInOrder, SemaphoreIsKept, FlagIsKept, QueueIsKept, SleeperIsKept, EachIsKept, WaitsAreKept, mutex_waiters, MutexIsKept}
 use Rattle.brd_kernel.proofs.who_waits.StandingLemmas.{waits, wanted, IsTimed, StandsIn, stands, kept}
 use Rattle.brd_kernel.proofs.nobody_waits.SleeperLemmas.{activated-kept}
 use Rattle.brd_kernel.proofs.nobody_waits.EachLemmas.{tasks-kept}
 use Rattle.brd_kernel.proofs.who_waits.RowLemmas.{activated-before}
 use Rattle.brd_kernel.proofs.who_waits.WaitingLemmas.{tasks-keep}
+use Rattle.brd_objects.specs.Mutexes.{mutex_of, protocol_order}
 
 -- what stands at a place of a table that is made: what its ID makes, or nothing
 made-by : {C X : Type 0} → (small : Bool) (id_of : C → ℕ) (object_of : C → X) (configs : List C) (n at : ℕ) (P : Option X → Type 0) →
@@ -63,19 +65,21 @@ nobody-made id_of object_of configs at list none some =
     made-by (nat_lt at 256) id_of object_of configs 256 at (λ found. list found ≡ []) refl none
     (nobody-at object_of list (find (λ c. id_of c == at) configs) none some)
 
-nobody-waits : (standard : Bool) (processors : ℕ) (setups : List TaskSetup) (lines : List LineSetup) (semaphores : List SemaphoreConfig) (flags : List FlagConfig) (queues : List QueueConfig) (spin_locks : List SpinLockConfig)
+nobody-waits : (standard : Bool) (processors : ℕ) (setups : List TaskSetup) (lines : List LineSetup) (semaphores : List SemaphoreConfig) (flags : List FlagConfig) (queues : List QueueConfig) (spin_locks : List SpinLockConfig) (mutexes : List MutexConfig)
     (why : WaitReason) →
-    standing_for (made_kernel standard processors setups lines semaphores flags queues spin_locks) why ≡ []
-nobody-waits standard processors setups lines semaphores flags queues spin_locks reason.Sleep = refl
-nobody-waits standard processors setups lines semaphores flags queues spin_locks reason.Delay = refl
-nobody-waits standard processors setups lines semaphores flags queues spin_locks (reason.On kind.Semaphore object) =
+    standing_for (made_kernel standard processors setups lines semaphores flags queues spin_locks mutexes) why ≡ []
+nobody-waits standard processors setups lines semaphores flags queues spin_locks mutexes reason.Sleep = refl
+nobody-waits standard processors setups lines semaphores flags queues spin_locks mutexes reason.Delay = refl
+nobody-waits standard processors setups lines semaphores flags queues spin_locks mutexes (reason.On kind.Semaphore object) =
     nobody-made (λ config. config.id) semaphore_of semaphores object semaphore_waiters refl (λ c. refl)
-nobody-waits standard processors setups lines semaphores flags queues spin_locks (reason.On kind.Flag object) =
+nobody-waits standard processors setups lines semaphores flags queues spin_locks mutexes (reason.On kind.Flag object) =
     nobody-made (λ config. config.id) flag_of flags object flag_waiters refl (λ c. refl)
-nobody-waits standard processors setups lines semaphores flags queues spin_locks (reason.On kind.Room object) =
+nobody-waits standard processors setups lines semaphores flags queues spin_locks mutexes (reason.On kind.Room object) =
     nobody-made (λ config. config.id) data_queue_of queues object senders refl (λ c. refl)
-nobody-waits standard processors setups lines semaphores flags queues spin_locks (reason.On kind.Datum object) =
+nobody-waits standard processors setups lines semaphores flags queues spin_locks mutexes (reason.On kind.Datum object) =
     nobody-made (λ config. config.id) data_queue_of queues object receivers refl (λ c. refl)
+nobody-waits standard processors setups lines semaphores flags queues spin_locks mutexes (reason.On kind.Mutex object) =
+    nobody-made (λ config. config.id) mutex_of mutexes object mutex_waiters refl (λ c. refl)
 
 -- a task that hasn't started waits for nothing
 first-waits : (found : Option TaskSetup) → waits (option_map unstarted found) ≡ None
@@ -94,13 +98,13 @@ dues-long : length beginning.dues ≡ 256
 unfolding beginning
 dues-long = refl
 
-made-stands : (standard : Bool) (processors : ℕ) (setups : List TaskSetup) (lines : List LineSetup) (semaphores : List SemaphoreConfig) (flags : List FlagConfig) (queues : List QueueConfig) (spin_locks : List SpinLockConfig) →
-    StandsIn [] (made_kernel standard processors setups lines semaphores flags queues spin_locks)
-made-stands standard processors setups lines semaphores flags queues spin_locks = record {
+made-stands : (standard : Bool) (processors : ℕ) (setups : List TaskSetup) (lines : List LineSetup) (semaphores : List SemaphoreConfig) (flags : List FlagConfig) (queues : List QueueConfig) (spin_locks : List SpinLockConfig) (mutexes : List MutexConfig) →
+    StandsIn [] (made_kernel standard processors setups lines semaphores flags queues spin_locks mutexes)
+made-stands standard processors setups lines semaphores flags queues spin_locks mutexes = record {
   rows = rows-length setups 256;
   dues = dues-long;
-  apart = λ why. subst AreApart (sym (nobody-waits standard processors setups lines semaphores flags queues spin_locks why)) tt;
-  listed = λ id why. ap (priority_in id) (nobody-waits standard processors setups lines semaphores flags queues spin_locks why)
+  apart = λ why. subst AreApart (sym (nobody-waits standard processors setups lines semaphores flags queues spin_locks mutexes why)) tt;
+  listed = λ id why. ap (priority_in id) (nobody-waits standard processors setups lines semaphores flags queues spin_locks mutexes why)
       ∙ sym (ap (λ w. wanted w why) (nothing-waited setups id));
   timed = λ id in_it. subst (λ w. IsTimed w (due_of beginning id)) (sym (nothing-waited setups id)) (undue id);
 }
@@ -128,9 +132,9 @@ unstarted-kept : (found : Option TaskSetup) → IfSome (option_map unstarted fou
 unstarted-kept None = tt
 unstarted-kept (Some setup) = λ asleep. refl
 
-made-each : (standard : Bool) (processors : ℕ) (setups : List TaskSetup) (lines : List LineSetup) (semaphores : List SemaphoreConfig) (flags : List FlagConfig) (queues : List QueueConfig) (spin_locks : List SpinLockConfig) →
-    EachIsKept (made_kernel standard processors setups lines semaphores flags queues spin_locks)
-made-each standard processors setups lines semaphores flags queues spin_locks = record {
+made-each : (standard : Bool) (processors : ℕ) (setups : List TaskSetup) (lines : List LineSetup) (semaphores : List SemaphoreConfig) (flags : List FlagConfig) (queues : List QueueConfig) (spin_locks : List SpinLockConfig) (mutexes : List MutexConfig) →
+    EachIsKept (made_kernel standard processors setups lines semaphores flags queues spin_locks mutexes)
+made-each standard processors setups lines semaphores flags queues spin_locks mutexes = record {
   sleepers = λ at. row-at (nat_lt at 256) setups 256 at refl (λ row. IfSome row (λ task. SleeperIsKept task)) tt
       (unstarted-kept (find (λ setup. setup.id == at) setups));
   semaphores = λ at. each-first (λ s. SemaphoreIsKept s) (λ config. config.id) semaphore_of semaphores at
@@ -139,14 +143,16 @@ made-each standard processors setups lines semaphores flags queues spin_locks = 
       (λ c. record { ordered = empty-in-order Want (order_of c.attributes.0); bits = tt; lacking = tt });
   queues = λ at. each-first (λ q. QueueIsKept q) (λ config. config.id) data_queue_of queues at
       (λ c. record { ordered = empty-in-order ℕ (order_of c.attributes.0); room = λ has. refl; datum = λ some. (refl, refl) });
+  mutexes = λ at. each-first (λ m. MutexIsKept m) (λ config. config.id) mutex_of mutexes at
+      (λ c. record { ordered = empty-in-order (Unit {0}) (protocol_order c.protocol); lacking = λ none. refl });
 }
 
 pub made-keeps : (standard : Bool) (processors : ℕ) (setups : List TaskSetup) (lines : List LineSetup) (semaphores : List SemaphoreConfig) (flags : List FlagConfig)
-    (queues : List QueueConfig) (spin_locks : List SpinLockConfig) →
-    WaitsAreKept (made_kernel standard processors setups lines semaphores flags queues spin_locks)
-made-keeps standard processors setups lines semaphores flags queues spin_locks =
-    kept (made_kernel standard processors setups lines semaphores flags queues spin_locks) (made-stands standard processors setups lines semaphores flags queues spin_locks)
-    (made-each standard processors setups lines semaphores flags queues spin_locks)
+    (queues : List QueueConfig) (spin_locks : List SpinLockConfig) (mutexes : List MutexConfig) →
+    WaitsAreKept (made_kernel standard processors setups lines semaphores flags queues spin_locks mutexes)
+made-keeps standard processors setups lines semaphores flags queues spin_locks mutexes =
+    kept (made_kernel standard processors setups lines semaphores flags queues spin_locks mutexes) (made-stands standard processors setups lines semaphores flags queues spin_locks mutexes)
+    (made-each standard processors setups lines semaphores flags queues spin_locks mutexes)
 
 pub activated-keeps : (k : KernelState) (id : ℕ) (request : Request) → WaitsAreKept k → WaitsAreKept (with_tasks k (activated k.tasks id request))
 activated-keeps k id request was =

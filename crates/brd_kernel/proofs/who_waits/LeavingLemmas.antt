@@ -19,6 +19,7 @@ use Rattle.brd_kernel.proofs.who_waits.ListLemmas.{same-number, priority_in-plai
 use Rattle.brd_kernel.proofs.who_waits.StandingLemmas.{waits_by, waits, wanted, Stands, StandsIn}
 use Rattle.brd_kernel.proofs.who_waits.WaitersLemmas.{OfEach, changed-all, elsewhere-none}
 use Rattle.brd_kernel.proofs.who_waits.KeepingLemmas.{by-leaving}
+use Rattle.brd_objects.specs.declared.mutex.Mutex.{Mutex}
 
 -- what a task waits for, as its row says it
 wait-row : (row : Option Task) → waits row ≡ waits_by (reason_in row) (priority_of row)
@@ -58,6 +59,7 @@ leaves id = record {
   flag = λ (f : Flag). left-list id f.waiters;
   room = λ (q : DataQueueState). left-list id q.senders;
   datum = λ (q : DataQueueState). left-list id q.receivers;
+  mutex = λ (m : Mutex). left-list id m.waiters;
 }
 
 pub or-false : (test : Bool) → (test || false) ≡ test

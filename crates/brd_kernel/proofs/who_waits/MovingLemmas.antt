@@ -20,6 +20,8 @@ use Rattle.brd_kernel.proofs.who_waits.ListLemmas.{priority_in-plain, has-plain,
 use Rattle.brd_kernel.proofs.who_waits.StandingLemmas.{waits, wanted, Stands}
 use Rattle.brd_kernel.proofs.who_waits.WaitersLemmas.{OfEach, changed-all, elsewhere-none}
 use Rattle.brd_kernel.proofs.who_waits.LeavingLemmas.{sleeps-nowhere, delayed-nowhere}
+use Rattle.brd_objects.specs.declared.mutex.Mutex.{Mutex}
+use Rattle.brd_objects.specs.Mutexes.{protocol_order}
 
 -- What becomes of a list when a task in it is given a priority.
 pub record IsMoved (id p : ℕ) (new old : List Plain) : Type 0 where
@@ -58,6 +60,7 @@ moves id p = record {
   flag = λ (f : Flag). moved-list f.order id p f.waiters;
   room = λ (q : DataQueueState). moved-list q.order id p q.senders;
   datum = λ (q : DataQueueState). moved-list Arrival id p q.receivers;
+  mutex = λ (m : Mutex). moved-list (protocol_order m.protocol) id p m.waiters;
 }
 
 -- `t` and `time` are those before

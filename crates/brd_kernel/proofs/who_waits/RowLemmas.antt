@@ -11,9 +11,10 @@ use Rattle.brd_tasks.specs.declared.status.Status.TheVariants.{Dormant, Ready, W
 use Rattle.brd_tasks.specs.declared.task.Task.{Task}
 use Rattle.brd_tasks.specs.declared.task.Request.{Request}
 use Rattle.brd_tasks.specs.Status.{waiting_of, is_dormant, is_ready, blocked, released, suspended, resumed}
-use Rattle.brd_tasks.specs.Tasks.{TaskTable, task_at, started, processor_of, starts, placed, patched, where_there, activated, ended_by, ended, put_into, through, released_to, released_with, changed, with_priority, on_processor, noted, turned}
+use Rattle.brd_tasks.specs.Tasks.{TaskTable, task_at, started, processor_of, starts, placed, patched, where_there, activated, ended_by, ended, put_into, through, released_to, released_with, changed, on_processor, noted, turned}
 use Rattle.brd_kernel.proofs.who_waits.ListLemmas.{if-lift, same-number, written-at}
 use Rattle.brd_kernel.proofs.who_waits.StandingLemmas.{waits_by, waits}
+use Rattle.brd_kernel.proofs.PricedLemmas.{priced}
 
 -- every task waits as before
 pub record IsAsBefore (t new : TaskTable) : Type 0 where
@@ -139,11 +140,12 @@ idle-priority None one other none = refl
 idle-priority (Some why) one other none = let wrong : ⊥ = cc in absurd wrong
 
 -- a task that doesn't wait is given another priority
-pub changed-before : (t : TaskTable) (id priority : ℕ) → waits (task_at t id) ≡ None → IsAsBefore t (changed (with_priority priority) t id)
-changed-before t id priority none =
-    there-before t id (λ task. placed t id (with_priority priority task)) (task_at t id) refl
+pub changed-before : (t : TaskTable) (base : Task → ℕ) (id priority : ℕ) → waits (task_at t id) ≡ None →
+    IsAsBefore t (changed (priced base priority) t id)
+changed-before t base id priority none =
+    there-before t id (λ task. placed t id (priced base priority task)) (task_at t id) refl
     (λ task there.
-    as-written t (placed t id (with_priority priority task)) id task (with_priority priority task) there
+    as-written t (placed t id (priced base priority task)) id task (priced base priority task) there
     (idle-priority (waiting_of task.status) priority task.priority (sym (ap waits there) ∙ none)) refl)
 
 -- a task is assigned to another processor
@@ -206,12 +208,12 @@ blocked-made why t id task there ready =
     (made-written t (placed t id (record task { status = Waiting why })) id task (record task { status = Waiting why }) there refl))
 
 -- a task that waits is given another priority
-pub changed-made : (t : TaskTable) (id priority : ℕ) (why : WaitReason) (task : Task) → task_at t id ≡ Some task → waiting_of task.status ≡ Some why →
-    Makes t (changed (with_priority priority) t id) id (Some (why, priority))
-changed-made t id priority why task there waiting =
-    there-made t id (λ x. placed t id (with_priority priority x)) (Some (why, priority)) task there
-    (subst (λ w. Makes t (placed t id (with_priority priority task)) id (waits_by w priority)) waiting
-    (made-written t (placed t id (with_priority priority task)) id task (with_priority priority task) there refl))
+pub changed-made : (t : TaskTable) (base : Task → ℕ) (id priority : ℕ) (why : WaitReason) (task : Task) → task_at t id ≡ Some task → waiting_of task.status ≡ Some why →
+    Makes t (changed (priced base priority) t id) id (Some (why, priority))
+changed-made t base id priority why task there waiting =
+    there-made t id (λ x. placed t id (priced base priority x)) (Some (why, priority)) task there
+    (subst (λ w. Makes t (placed t id (priced base priority task)) id (waits_by w priority)) waiting
+    (made-written t (placed t id (priced base priority task)) id task (priced base priority task) there refl))
 
 -- where a task is there, its ID is one of the rows'
 pub row-small : (small : Bool) (t : TaskTable) (id : ℕ) (task : Task) → nat_lt id (length t.rows) ≡ small → task_at t id ≡ Some task →

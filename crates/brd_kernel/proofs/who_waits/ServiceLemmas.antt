@@ -21,9 +21,9 @@ use Rattle.brd_kernel.specs.declared.processor.Executor.{Executor}
 use Rattle.brd_kernel.specs.declared.processor.Executor.TheVariants as executor
 use Rattle.brd_kernel.specs.Dispatch.{dispatched}
 use Rattle.brd_kernel.specs.Kernel.{KernelState, with_tasks, processor_at, unmarked, with_context_of, with_pending, handles, accepted_line}
-use Rattle.brd_kernel.specs.Waits.{reason_of, ended_in, answer_by, timed_out, all_timed_out, ticked_on, ticked, faulted_task, faulted_in, ended_by_fault}
+use Rattle.brd_kernel.specs.Waits.{reason_of, answer_by, timed_out, all_timed_out, ticked_on, ticked, faulted_task, faulted_in, ended_by_fault, with_released, all_given_in, quits_in}
 use Rattle.brd_kernel.specs.Services as table
-use Rattle.brd_kernel.specs.Services.{named, unmarked_on, handler_ended, serve_by, serve_of, caller_on, or_waits, callers_priority, with_released, with_all_released_in, with_satisfied_of, handed_over, flag_got, queue_sent, queue_received}
+use Rattle.brd_kernel.specs.Services.{named, unmarked_on, handler_ended, serve_by, serve_of, caller_on, or_waits, callers_priority, with_all_released_in, with_satisfied_of, handed_over, flag_got, queue_sent, queue_received}
 use Rattle.brd_kernel.specs.Waiting.{standing_for, WaitsAreKept}
 use Rattle.brd_kernel.proofs.who_waits.ListLemmas.{either}
 use Rattle.brd_kernel.proofs.WalkLemmas.{Anything, Law, lacked, awaiting, serve-always}
@@ -34,7 +34,9 @@ use Rattle.brd_kernel.proofs.who_waits.StandingLemmas.{waits_by, waits, StandsIn
 use Rattle.brd_kernel.proofs.who_waits.KeepingLemmas.{by-lists, by-count}
 use Rattle.brd_kernel.proofs.who_waits.RowLemmas.{noted-before, activated-before, migrated-before, turned-before, suspended-keeps, resumed-keeps, through-before}
 use Rattle.brd_kernel.proofs.who_waits.WaitingLemmas.{lists-by, parts-keep, processor-keeps, tasks-keep, released-keep, broken-keeps, ended-keeps, asleep-out, wait-keeps, enters-none, enters-object, priority-keeps}
-use Rattle.brd_kernel.proofs.who_waits.CallLemmas.{sleep-none, delay-none, taken-by, semaphore-stays, returned-keeps, flag-stays, taken-keeps, satisfied-keep, sent-keeps, forced-keeps, received-keeps}
+use Rattle.brd_kernel.proofs.who_waits.CallLemmas.{sleep-none, delay-none, taken-by, semaphore-stays, returned-keeps, flag-stays, taken-keeps, satisfied-keep, sent-keeps, forced-keeps, received-keeps, mutex-stays, given-keeps}
+use Rattle.brd_objects.specs.Mutexes.{owned}
+use Rattle.brd_kernel.proofs.SettledLemmas.{Settles, all-given, all-prioritized}
 
 -- Service calls.
 
@@ -49,6 +51,16 @@ asleep-by k id task (Some reason.Sleep) there waiting asleep was =
     asleep-out k id task.priority (ap waits there ∙ ap (λ w. waits_by w task.priority) waiting) was
 asleep-by k id task _ there waiting asleep was = absurd (false≢true asleep)
 
+-- each step of giving mutexes back and of giving priorities
+pub stands-settles : Settles (StandsIn [])
+stands-settles = record {
+  gives = λ k at m there was. given-keeps k at m there was;
+  prices = λ k base id priority (task : Task) there was. priority-keeps k base id priority task (waiting_of task.status) there refl was;
+}
+
+quits-keeps : (k : KernelState) (id : ℕ) → StandsIn [] k → StandsIn [] (quits_in k id)
+quits-keeps k id was = ended-keeps (all_given_in k id) id (all-given (StandsIn []) k id stands-settles was)
+
 -- what each effect makes of it
 stands-law : (k : KernelState) (cpu caller : ℕ) → StandsIn [] k → Law Anything (StandsIn []) k cpu caller
 stands-law k cpu caller was = record {
@@ -57,9 +69,9 @@ stands-law k cpu caller was = record {
   cancels = λ id. tasks-keep k (noted without_activation k.tasks id) (noted-before without_activation k.tasks id (λ x. refl)) was;
   wakes = λ id task there awake. tasks-keep k (noted (with_wakeup true) k.tasks id) (noted-before (with_wakeup true) k.tasks id (λ x. refl)) was;
   unwakes = λ id. tasks-keep k (noted (with_wakeup false) k.tasks id) (noted-before (with_wakeup false) k.tasks id (λ x. refl)) was;
-  exits = λ may. exit-keeps (ended_in k caller) cpu (processor_at k cpu) (ended-keeps k caller was);
-  ends = λ id task there held other. ended-keeps k id was;
-  prioritizes = λ id priority (task : Task) there. priority-keeps k id priority task (waiting_of task.status) there refl was;
+  exits = λ may. exit-keeps (quits_in k caller) cpu (processor_at k cpu) (quits-keeps k caller was);
+  ends = λ id task there held other. quits-keeps k id was;
+  prioritizes = λ base id priority (task : Task) there. priority-keeps k base id priority task (waiting_of task.status) there refl was;
   migrates = λ id to task there held absent may. tasks-keep k (changed (on_processor to) k.tasks id) (migrated-before k.tasks id to) was;
   suspends = λ id task there held may. tasks-keep k (through suspended k.tasks id) (through-before suspended k.tasks id suspended-keeps) was;
   resumes = λ id. tasks-keep k (through resumed k.tasks id) (through-before resumed k.tasks id resumed-keeps) was;
@@ -71,7 +83,7 @@ stands-law k cpu caller was = record {
       (λ small. enters-none caller (callers_priority k caller) reason.Delay (standing_for k) delay-none was.apart) was;
   rotates = λ on priority p there. tasks-keep k (turned k.tasks on priority) (turned-before k.tasks on priority) was;
   marks = λ p q there same how. processor-keeps k cpu q was;
-  returns = λ p there. parts-keep k (handler_ended k cpu p) refl refl refl refl refl was;
+  returns = λ p there. parts-keep k (handler_ended k cpu p) refl refl refl refl refl refl was;
   signals = λ id (s : Semaphore) there. returned-keeps k id s s.waiters there refl was;
   takes = λ id (s : Semaphore) there. semaphore-stays taken k id s there (taken-by (s.count == 0) s _) was;
   sets = λ id bits f there. let set : KernelState = record k { flags = object_changed (joined bits) k.flags id } in
@@ -81,16 +93,19 @@ stands-law k cpu caller was = record {
   sends = λ id datum q there. sent-keeps k id datum q there was;
   forces = λ id datum q there. forced-keeps k id datum q there was;
   receives = λ id (q : DataQueueState) it there is. received-keeps k id q it there is was;
+  locks = λ id m there. mutex-stays (owned caller) k id m there refl was;
+  gives = λ id m there. given-keeps k id m there was;
   awaits = λ id due lacks may. wait-keeps k caller (reason.On (lacked lacks) id) due (awaiting k caller id lacks) tt
       (enters-object k caller id lacks was) was;
-  writes = λ word. parts-keep k (record k { console = k.console ++ word % 2 ^ 8 ∷ [] }) refl refl refl refl refl was;
-  ends_all = parts-keep k (record k { off = true }) refl refl refl refl refl was;
-  sets_clock = λ clock. parts-keep k (record k { clock = clock }) refl refl refl refl refl was;
+  writes = λ word. parts-keep k (record k { console = k.console ++ word % 2 ^ 8 ∷ [] }) refl refl refl refl refl refl was;
+  ends_all = parts-keep k (record k { off = true }) refl refl refl refl refl refl was;
+  sets_clock = λ clock. parts-keep k (record k { clock = clock }) refl refl refl refl refl refl was;
 }
 
 pub serve-keeps : (k : KernelState) (cpu : ℕ) (c : Call) → WaitsAreKept k → WaitsAreKept (serve_of k cpu c).kernel
 serve-keeps k cpu c was =
-    kept (serve_of k cpu c).kernel (serve-always (StandsIn []) k cpu (stands-law k cpu (caller_on k cpu) (stands k was)) c)
+    kept (serve_of k cpu c).kernel (serve-always (StandsIn []) k cpu (stands-law k cpu (caller_on k cpu) (stands k was))
+    (λ new stood. all-prioritized (StandsIn []) new stands-settles stood) c)
     (serve-kept k cpu c was.each)
 
 -- Ticks.
@@ -102,15 +117,16 @@ all-timed-keep k (id ∷ ids) was = all-timed-keep (timed_out k id) ids (broken-
 count-keeps : (k : KernelState) (time : Time) → time.dues ≡ k.time.dues → StandsIn [] k → StandsIn [] (record k { time = time })
 count-keeps k time same was =
     let new : KernelState = record k { time = time } in
-    by-lists [] k.tasks time (standing_for k) (standing_for new) (lists-by k new refl refl refl)
+    by-lists [] k.tasks time (standing_for k) (standing_for new) (lists-by k new refl refl refl refl)
     (by-count [] k.tasks k.time time (standing_for k) same was)
 
 pub ticked-keeps : (k : KernelState) → WaitsAreKept k → WaitsAreKept (ticked_on k (advanced k.time))
 ticked-keeps k was =
     let time : Time = advanced k.time in
     kept (ticked_on k time)
+    (all-prioritized (StandsIn []) (all_timed_out (record k { time = time }) (due_from time 0)) stands-settles
     (all-timed-keep (record k { time = time }) (due_from time 0)
-    (count-keeps k time (either (λ (t : Time). t.dues ≡ k.time.dues) (nat_lt k.time.count last_count) _ k.time refl refl) (stands k was)))
+    (count-keeps k time (either (λ (t : Time). t.dues ≡ k.time.dues) (nat_lt k.time.count last_count) _ k.time refl refl) (stands k was))))
     (ticked-kept k was.each)
 
 pub tick-keeps : (k : KernelState) → WaitsAreKept k → WaitsAreKept (ticked k)
@@ -122,9 +138,9 @@ faulted-task-keeps : (k : KernelState) (cpu : ℕ) (p : Processor) (running : Op
 faulted-task-keeps k cpu p None was = was
 faulted-task-keeps k cpu p (Some id) was =
     let on : KernelState = with_tasks k (noted without_activation k.tasks id) in
-    let out : KernelState = ended_in on id in
+    let out : KernelState = quits_in on id in
     processor-keeps out cpu (unmarked p)
-    (ended-keeps on id (tasks-keep k (noted without_activation k.tasks id) (noted-before without_activation k.tasks id (λ x. refl)) was))
+    (quits-keeps on id (tasks-keep k (noted without_activation k.tasks id) (noted-before without_activation k.tasks id (λ x. refl)) was))
 
 faulted-keeps : (k : KernelState) (cpu : ℕ) (found : Option Processor) → StandsIn [] k → StandsIn [] (faulted_in k cpu found)
 faulted-keeps k cpu None was = was
@@ -133,31 +149,34 @@ faulted-keeps k cpu (Some p) was =
     (faulted-task-keeps k cpu p p.running was)
 
 pub fault-keeps : (k : KernelState) (cpu : ℕ) → WaitsAreKept k → WaitsAreKept (ended_by_fault k cpu)
-fault-keeps k cpu was = kept (ended_by_fault k cpu) (faulted-keeps k cpu (processor_at k cpu) (stands k was)) (fault-kept k cpu was.each)
+fault-keeps k cpu was =
+    kept (ended_by_fault k cpu)
+    (all-prioritized (StandsIn []) (faulted_in k cpu (processor_at k cpu)) stands-settles (faulted-keeps k cpu (processor_at k cpu) (stands k was)))
+    (fault-kept k cpu was.each)
 
 -- What changes no wait, no list and no due tick.
 pub others-keep : (k new : KernelState) → new.tasks ≡ k.tasks → new.time ≡ k.time → new.semaphores ≡ k.semaphores → new.flags ≡ k.flags →
-    new.queues ≡ k.queues → WaitsAreKept k → WaitsAreKept new
-others-keep k new tasks time semaphores flags queues was =
-    kept new (parts-keep k new tasks time semaphores flags queues (stands k was))
-    (others-kept k new semaphores flags queues (subst (λ t. AreKept t) (sym tasks) was.each.sleepers) was.each)
+    new.queues ≡ k.queues → new.mutexes ≡ k.mutexes → WaitsAreKept k → WaitsAreKept new
+others-keep k new tasks time semaphores flags queues mutexes was =
+    kept new (parts-keep k new tasks time semaphores flags queues mutexes (stands k was))
+    (others-kept k new semaphores flags queues mutexes (subst (λ t. AreKept t) (sym tasks) was.each.sleepers) was.each)
 
 pub context-keeps : (k : KernelState) (cpu : ℕ) (who : Executor) (s : State) → WaitsAreKept k → WaitsAreKept (with_context_of k cpu who s)
-context-keeps k cpu executor.Handler s was = others-keep k (with_context_of k cpu executor.Handler s) refl refl refl refl refl was
+context-keeps k cpu executor.Handler s was = others-keep k (with_context_of k cpu executor.Handler s) refl refl refl refl refl refl was
 context-keeps k cpu (executor.Task id) s was =
     kept (with_context_of k cpu (executor.Task id) s)
     (tasks-keep k (with_context k.tasks id s) (record { long = refl; same = λ at. refl }) (stands k was))
     (tasks-kept k (with_context k.tasks id s) was.each.sleepers was.each)
 
 pub dispatched-keeps : (k : KernelState) → WaitsAreKept k → WaitsAreKept (dispatched k)
-dispatched-keeps k was = others-keep k (dispatched k) refl refl refl refl refl was
+dispatched-keeps k was = others-keep k (dispatched k) refl refl refl refl refl refl was
 
 pub pending-keeps : (k : KernelState) (line : ℕ) → WaitsAreKept k → WaitsAreKept (with_pending k line)
-pending-keeps k line was = others-keep k (with_pending k line) refl refl refl refl refl was
+pending-keeps k line was = others-keep k (with_pending k line) refl refl refl refl refl refl was
 
 handles-keep : (k : KernelState) (cpu line : ℕ) (found : Option Processor) → WaitsAreKept k → WaitsAreKept (handles k cpu line found)
 handles-keep k cpu line None was = was
-handles-keep k cpu line (Some p) was = others-keep k (handles k cpu line (Some p)) refl refl refl refl refl was
+handles-keep k cpu line (Some p) was = others-keep k (handles k cpu line (Some p)) refl refl refl refl refl refl was
 
 pub accepted-keeps : (k : KernelState) (cpu line : ℕ) → WaitsAreKept k → WaitsAreKept (accepted_line k cpu line)
 accepted-keeps k cpu line was = handles-keep k cpu line (processor_at k cpu) was

@@ -13,9 +13,10 @@ use Rattle.brd_objects.specs.Table.{Table, object_at, object_changed, objects_ch
 use Rattle.brd_objects.specs.DataQueues.{DataQueueState}
 use Rattle.brd_kernel.specs.Kernel.{KernelState}
 use Rattle.brd_kernel.specs.Waits.{Change, changed_of}
-use Rattle.brd_kernel.specs.Waiting.{plain, semaphore_waiters, flag_waiters, senders, receivers, standing_for}
+use Rattle.brd_kernel.specs.Waiting.{plain, semaphore_waiters, flag_waiters, senders, receivers, standing_for, mutex_waiters}
 use Rattle.brd_kernel.proofs.who_waits.ListLemmas.{if-lift, same-number, written-at}
 use Rattle.brd_kernel.proofs.who_waits.StandingLemmas.{stands_in, wanted}
+use Rattle.brd_objects.specs.declared.mutex.Mutex.{Mutex}
 
 -- One object is changed.
 
@@ -39,6 +40,13 @@ pub flag-rewrites : (f : Flag → Flag) (k : KernelState) (id : ℕ) (g : Flag) 
 flag-rewrites f k id g there (reason.On kind.Flag object) =
     ap flag_waiters (object-changed f k.flags id object g there) ∙ if-lift flag_waiters (id == object) (Some (f g)) (object_at k.flags object)
 flag-rewrites f k id g there _ = refl
+
+pub mutex-rewrites : (f : Mutex → Mutex) (k : KernelState) (id : ℕ) (m : Mutex) → object_at k.mutexes id ≡ Some m → (other : WaitReason) →
+    standing_for (record k { mutexes = object_changed f k.mutexes id }) other ≡
+    (if stands_in (reason.On kind.Mutex id) other then (f m).waiters else standing_for k other)
+mutex-rewrites f k id m there (reason.On kind.Mutex object) =
+    ap mutex_waiters (object-changed f k.mutexes id object m there) ∙ if-lift mutex_waiters (id == object) (Some (f m)) (object_at k.mutexes object)
+mutex-rewrites f k id m there _ = refl
 
 -- of a queue one list stays
 
@@ -82,6 +90,7 @@ pub record OfEach (R : List Plain → List Plain → Type 0) (change : Change) :
   pub flag : (f : Flag) → R (plain (change.flag f).waiters) (plain f.waiters)
   pub room : (q : DataQueueState) → R (plain (change.queue q).senders) (plain q.senders)
   pub datum : (q : DataQueueState) → R (plain (change.queue q).receivers) (plain q.receivers)
+  pub mutex : (m : Mutex) → R (plain (change.mutex m).waiters) (plain m.waiters)
 
 pub plain-same : (xs : List Plain) → plain xs ≡ xs
 plain-same [] = refl
@@ -109,6 +118,8 @@ changed-all R change k kind.Semaphore each rest (reason.On kind.Semaphore at) =
     at-by R semaphore_waiters change.semaphore k.semaphores at each.nobody
     (λ (s : Semaphore). as-plain R (change.semaphore s).waiters s.waiters (each.semaphore s))
 changed-all R change k kind.Flag each rest (reason.On kind.Flag at) = at-by R flag_waiters change.flag k.flags at each.nobody each.flag
+changed-all R change k kind.Mutex each rest (reason.On kind.Mutex at) =
+    at-by R mutex_waiters change.mutex k.mutexes at each.nobody (λ (m : Mutex). as-plain R (change.mutex m).waiters m.waiters (each.mutex m))
 changed-all R change k kind.Room each rest (reason.On kind.Room at) = at-by R senders change.queue k.queues at each.nobody each.room
 changed-all R change k kind.Room each rest (reason.On kind.Datum at) = at-by R receivers change.queue k.queues at each.nobody
     (λ (q : DataQueueState). as-plain R (change.queue q).receivers q.receivers (each.datum q))

@@ -2,10 +2,10 @@
 
 ghost use Rattle.std.specs.Prelude.{◌≡◌, ◌≢◌, ◌<◌, false, IfSome};
 ghost use Rattle.brd_kernel.specs.Row.{Serves, served};
+ghost use Rattle.brd_kernel.specs.Waits.{with_released};
 ghost use Rattle.brd_kernel.specs.Services as table;
 ghost use Rattle.brd_kernel.specs.Services.{
   callers_priority,
-  with_released,
   with_satisfied_released,
   is_bad_want,
   want_of,
@@ -212,7 +212,7 @@ impl Kernel {
     }
 
     /// A task, if it is one, is released with E_OK.
-    fn release_one(&mut self, id: Option<TaskId>)
+    pub(super) fn release_one(&mut self, id: Option<TaskId>)
         requires { IfSome id (λ n. n < 256) }
         ensures { self.new ≡ with_released self.old id }
     {

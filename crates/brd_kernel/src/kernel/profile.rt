@@ -106,7 +106,7 @@ impl Kernel {
         [
             state_word(is_same_task(self.running(task.cpu), Some(id)), task.status),
             task.priority as u32,
-            task.priority as u32,
+            task.base as u32,
             wait_word(why),
             object_word(why),
             left_word(
@@ -183,7 +183,7 @@ fn sensed(processor: Processor, what: Sensed) -> bool
 }
 
 /// A task's ID, or 0 (TSK_NONE).
-fn id_or_none(id: Option<TaskId>) -> u32
+pub(super) fn id_or_none(id: Option<TaskId>) -> u32
     ensures { result ≡ id_or_none id }
 {
     match id {
@@ -233,6 +233,7 @@ fn kind_word(kind: WaitKind) -> u32
         WaitKind::Flag => 8,
         WaitKind::Room => 16,
         WaitKind::Datum => 32,
+        WaitKind::Mutex => 128,
     }
 }
 

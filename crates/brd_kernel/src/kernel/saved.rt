@@ -5,7 +5,7 @@ ghost use Rattle.std.specs.Prelude.{◌≡◌, IfOk};
 use super::{CONSOLE_SIZE, Kernel};
 use crate::common::Common;
 use brd_base::NoMemory;
-use brd_objects::{SavedFlags, SavedQueues, SavedSemaphores};
+use brd_objects::{SavedFlags, SavedMutexes, SavedQueues, SavedSemaphores};
 use std::marker::Model;
 
 /// A kernel that has room for nothing but what it holds: no more waiting tasks, data and console output. So a snapshot
@@ -15,6 +15,7 @@ pub struct SavedKernel {
     semaphores: SavedSemaphores,
     flags: SavedFlags,
     queues: SavedQueues,
+    mutexes: SavedMutexes,
 }
 
 impl Model for SavedKernel {
@@ -23,9 +24,9 @@ impl Model for SavedKernel {
 
     ghost Value = { KernelState };
 
-    ghost view = { λ k. kernel_of k.common k.semaphores k.flags k.queues };
+    ghost view = { λ k. kernel_of k.common k.semaphores k.flags k.queues k.mutexes };
 
-    ghost invariant = { λ k. IsCommon k.common (kernel_of k.common k.semaphores k.flags k.queues) };
+    ghost invariant = { λ k. IsCommon k.common (kernel_of k.common k.semaphores k.flags k.queues k.mutexes) };
 }
 
 /// Written out, so that a function that lets one go is proved with a call, and not with the end of each part.
@@ -36,6 +37,7 @@ impl Drop for SavedKernel {
             semaphores: _,
             flags: _,
             queues: _,
+            mutexes: _,
         } = self;
     }
 }
@@ -50,6 +52,7 @@ impl Kernel {
             semaphores: self.semaphores.save()?,
             flags: self.flags.save()?,
             queues: self.queues.save()?,
+            mutexes: self.mutexes.save()?,
         })
     }
 }
@@ -64,6 +67,7 @@ impl SavedKernel {
             semaphores: self.semaphores.restore()?,
             flags: self.flags.restore()?,
             queues: self.queues.restore()?,
+            mutexes: self.mutexes.restore()?,
         })
     }
 }

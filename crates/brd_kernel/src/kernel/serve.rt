@@ -35,7 +35,10 @@ impl Kernel {
     {
         let caller = self.caller(cpu);
         match self.serve_by(cpu, caller, call) {
-            Ok(reply) => reply,
+            Ok(reply) => {
+                self.prioritize_after(reply);
+                reply
+            }
             Err(code) => Reply::Answer(code.word(), None),
         }
     }
@@ -108,6 +111,9 @@ impl Kernel {
             Call::RefSem(id, word) => self.ref_sem(id, word),
             Call::RefFlg(id, word) => self.ref_flg(id, word),
             Call::RefDtq(id, word) => self.ref_dtq(id, word),
+            Call::TlocMtx(id, timeout) => self.tloc_mtx(caller, id, timeout),
+            Call::UnlMtx(id) => self.unl_mtx(caller, id),
+            Call::RefMtx(id, word) => self.ref_mtx(id, word),
         }
     }
 
@@ -140,7 +146,7 @@ impl Kernel {
         ensures { Serves self.old self.new result (served (table.ext_tsk self.old cpu caller)) }
     {
         let _ = self.named_task(caller)?;
-        self.end(caller);
+        self.quit(caller);
         self.unmark(cpu);
         Ok(Reply::Silent)
     }
@@ -156,7 +162,7 @@ impl Kernel {
         if task.status.is_dormant() || self.is_held_elsewhere(cpu, id, task) {
             return Err(Ercd::Obj);
         }
-        self.end(id);
+        self.quit(id);
         Ok(OK)
     }
 
@@ -168,10 +174,13 @@ impl Kernel {
             return Err(Ercd::Par);
         }
         let task = self.named_task(id)?;
+        let priority = priority_or_initial(priority as u8, task);
+        if self.is_over_ceiling(id, priority, task.status.waiting()) {
+            return Err(Ercd::Iluse);
+        }
         if task.status.is_dormant() {
             return Err(Ercd::Obj);
         }
-        let priority = priority_or_initial(priority as u8, task);
         self.common.tasks.set_priority(id, priority);
         self.reorder(id, priority, task.status.waiting());
         Ok(OK)

@@ -113,6 +113,7 @@ impl Kernel {
             WaitKind::Semaphore => self.semaphores.leave(id),
             WaitKind::Flag => self.flags.leave(id),
             WaitKind::Room | WaitKind::Datum => self.queues.leave(id),
+            WaitKind::Mutex => self.mutexes.leave(id),
         }
     }
 
@@ -147,6 +148,7 @@ impl Kernel {
             WaitKind::Semaphore => self.semaphores.reorder(id, priority),
             WaitKind::Flag => self.flags.reorder(id, priority),
             WaitKind::Room | WaitKind::Datum => self.queues.reorder(id, priority),
+            WaitKind::Mutex => self.mutexes.reorder(id, priority),
         }
     }
 
