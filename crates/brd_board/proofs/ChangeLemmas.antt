@@ -17,12 +17,12 @@ use Rattle.brd_kernel.specs.declared.processor.Executor.TheVariants as executor
 use Rattle.brd_kernel.specs.Kernel.{KernelState, with_tasks, processor_at, running_in, running_on, unmarked, executor_on, with_context_of, handles, accepted_line, deliverable, line_at, with_pending}
 use Rattle.brd_board.specs.Executing.{Executed, executed_in, executed}
 use Rattle.brd_kernel.specs.Dispatch.{dispatched, is_same_task, has_changed, changed_processors}
-use Rattle.brd_kernel.proofs.SameLemmas.{Same, same-ended, same-law}
+use Rattle.brd_kernel.proofs.SameLemmas.{Same, same-quits, same-prioritized, same-law}
 use Rattle.brd_kernel.proofs.SpinLemmas.{same-ticked}
 use Rattle.brd_kernel.proofs.WalkLemmas.{Anything, Law, serve-always}
 use Rattle.brd_tasks.specs.Tasks.{noted, without_activation}
 use Rattle.brd_time.specs.Time.{last_count, advanced as time_advanced}
-use Rattle.brd_kernel.specs.Waits.{ended_in, ticked_on, faulted_task, faulted_in}
+use Rattle.brd_kernel.specs.Waits.{quits_in, prioritized, ticked_on, faulted_task, faulted_in}
 use Rattle.brd_kernel.specs.Services.{unmarked_on, caller_on}
 use Rattle.brd_sysgate.specs.Gate.{called}
 use Rattle.brd_board.proofs.CallingLemmas.{Calls, called-leaves}
@@ -54,11 +54,11 @@ keeps-unmarked : (k : KernelState) (cpu : ℕ) (found : Option Processor) → pr
 keeps-unmarked k cpu None is = λ at. refl
 keeps-unmarked k cpu (Some p) is = λ at. runners-set k.processors cpu at p (unmarked p) is refl
 
-keeps-exit : (k : KernelState) (cpu caller : ℕ) → KeepsRunners (unmarked_on (ended_in k caller) cpu (processor_at k cpu)) k
+keeps-exit : (k : KernelState) (cpu caller : ℕ) → KeepsRunners (unmarked_on (quits_in k caller) cpu (processor_at k cpu)) k
 keeps-exit k cpu caller =
-    let out : KernelState = ended_in k caller in
-    λ at. keeps-unmarked out cpu (processor_at k cpu) (ap (λ ps. slice_index_or ps cpu None) (same-ended k caller).processors) at
-    ∙ runs out k (same-ended k caller) at
+    let out : KernelState = quits_in k caller in
+    λ at. keeps-unmarked out cpu (processor_at k cpu) (ap (λ ps. slice_index_or ps cpu None) (same-quits k caller).processors) at
+    ∙ runs out k (same-quits k caller) at
 
 runners-law : (k : KernelState) (cpu caller : ℕ) → Law Anything (λ new. KeepsRunners new k) k cpu caller
 runners-law k cpu caller = same-law (λ new. KeepsRunners new k) k cpu caller (record {
@@ -78,7 +78,8 @@ calls-keep k cpu = record {
   goes_on = λ now who s was at. keeps-context now cpu who s at ∙ was at;
   replies = λ now who s was at. keeps-context now cpu who s at ∙ was at;
   serves = λ now p c same there may was at.
-      serve-always (λ new. KeepsRunners new now) now cpu (runners-law now cpu (caller_on now cpu)) c at ∙ was at;
+      serve-always (λ new. KeepsRunners new now) now cpu (runners-law now cpu (caller_on now cpu))
+      (λ new kept at. runs (prioritized new) new (same-prioritized new) at ∙ kept at) c at ∙ was at;
 }
 
 keeps-called : (k : KernelState) (cpu : ℕ) → KeepsRunners (called k cpu) k
@@ -94,8 +95,8 @@ keeps-faulted_task : (k : KernelState) (cpu : ℕ) (p : Processor) (running : Op
 keeps-faulted_task k cpu p None is = λ at. refl
 keeps-faulted_task k cpu p (Some id) is =
     let noted-one : KernelState = with_tasks k (noted without_activation k.tasks id) in
-    let out : KernelState = ended_in noted-one id in
-    let only : Same out noted-one = same-ended noted-one id in
+    let out : KernelState = quits_in noted-one id in
+    let only : Same out noted-one = same-quits noted-one id in
     let same : Same out k = record { processors = only.processors; spin_locks = only.spin_locks; standard = only.standard } in
     λ at. runners-set out.processors cpu at p (unmarked p) (ap (λ ps. slice_index_or ps cpu None) same.processors ∙ is) refl ∙ runs out k same at
 
@@ -157,7 +158,9 @@ ends-done : (b c : BoardState) (cpu address : ℕ) (outcome : Outcome) → Keeps
 ends-done b c cpu address Done keeps = ends-reported b c keeps
 ends-done b c cpu address Syscall keeps = ends-dispatched b (with_call c cpu) (λ at. keeps-called c.kernel cpu at ∙ keeps at)
 ends-done b c cpu address (Exception code epc bd) keeps =
-    ends-dispatched b (with_fault c cpu (record { code = code; epc = epc; bd = bd })) (λ at. keeps-faulted c.kernel cpu (processor_at c.kernel cpu) refl at ∙ keeps at)
+    ends-dispatched b (with_fault c cpu (record { code = code; epc = epc; bd = bd })) (λ at. runs (prioritized (faulted_in c.kernel cpu (processor_at c.kernel cpu))) (faulted_in c.kernel cpu (processor_at c.kernel cpu))
+    (same-prioritized (faulted_in c.kernel cpu (processor_at c.kernel cpu))) at
+    ∙ keeps-faulted c.kernel cpu (processor_at c.kernel cpu) refl at ∙ keeps at)
 
 ends-executes : (b : BoardState) (cpu : ℕ) (done : Option Executed) → executed b.kernel cpu b.memory b.links ≡ done → EndsLinks b (executes_in b cpu done).board
 ends-executes b cpu None is = ends-reported b b (λ at. refl)

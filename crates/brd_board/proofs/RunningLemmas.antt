@@ -118,7 +118,7 @@ within c valid i task below =
 
 booted-runs : (config : Configuration) (s : List TaskSetup) (l : List LineSetup) → All IsSetup s → IsRunning (booted_kernel s l config)
 booted-runs config s l good =
-    let first : KernelState = made_kernel config.standard config.processors s l config.semaphores config.flags config.queues config.spin_locks in
+    let first : KernelState = made_kernel config.standard config.processors s l config.semaphores config.flags config.queues config.spin_locks config.mutexes in
     let on : KernelState = with_tasks first (all_started (made s) config.tasks) in
     dispatch-runs on (runs-hold on (all-started-kept {P = IsRunning} started-runs first config.tasks (made-runs first config.processors s refl refl good)))
 

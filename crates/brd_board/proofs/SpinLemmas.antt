@@ -201,7 +201,7 @@ booted-locking : (config : Configuration) (s : List TaskSetup) (l : List LineSet
     IsLocking (booted_kernel s l config)
 booted-locking config s l =
     let first : KernelState =
-    made_kernel config.standard config.processors s l config.semaphores config.flags config.queues config.spin_locks in
+    made_kernel config.standard config.processors s l config.semaphores config.flags config.queues config.spin_locks config.mutexes in
     dispatch-locking (with_tasks first (all_started first.tasks config.tasks))
     (all-started-kept {P = IsLocking}
     (λ k id was. locking-same k (with_tasks k (activated k.tasks id Assigned))

@@ -42,10 +42,10 @@ happens-keeps b event was = happens-kept waits-kept b event was
 
 booted-keeps : (config : Configuration) (s : List TaskSetup) (l : List LineSetup) → WaitsAreKept (booted_kernel s l config)
 booted-keeps config s l =
-    let first : KernelState = made_kernel config.standard config.processors s l config.semaphores config.flags config.queues config.spin_locks in
+    let first : KernelState = made_kernel config.standard config.processors s l config.semaphores config.flags config.queues config.spin_locks config.mutexes in
     dispatched-keeps (with_tasks first (all_started first.tasks config.tasks))
     (all-started-kept {P = WaitsAreKept} (λ k id was. activated-keeps k id Assigned was) first config.tasks
-    (made-keeps config.standard config.processors s l config.semaphores config.flags config.queues config.spin_locks))
+    (made-keeps config.standard config.processors s l config.semaphores config.flags config.queues config.spin_locks config.mutexes))
 
 pub boot-keeps : (image : Image) (config : Configuration) (b : BoardState) (events : List Event) → boot image config ≡ Ok b →
     WaitsAreKept (after b events).kernel

@@ -519,6 +519,7 @@ fn started(
         config.flags.as_slice(),
         config.queues.as_slice(),
         config.spin_locks.as_slice(),
+        config.mutexes.as_slice(),
     )?;
     start_all(&mut kernel, config.tasks.as_slice());
     let _ = kernel.dispatch();

@@ -11,55 +11,55 @@ use Rattle.brd_kernel.specs.Services.{is_over_mutex, is_over_below}
 next : (n : ℕ) → suc n ≡ n + 1
 next n = omega arith
 
-pub given-none : (k : KernelState) (id : ℕ) → k ≡ given_below k id 0
+pub given_none : (k : KernelState) (id : ℕ) → k ≡ given_below k id 0
 unfolding given_below
-given-none k id = refl
+given_none k id = refl
 
-pub given-more : (k : KernelState) (id at : ℕ) → given_by_in (given_below k id at) id at ≡ given_below k id (at + 1)
+pub given_more : (k : KernelState) (id at : ℕ) → given_by_in (given_below k id at) id at ≡ given_below k id (at + 1)
 unfolding given_below
-given-more k id at = ap (given_below k id) (next at)
+given_more k id at = ap (given_below k id) (next at)
 
-pub over-none : (k : KernelState) (id priority : ℕ) → false ≡ is_over_below k id priority 0
+pub over_none : (k : KernelState) (id priority : ℕ) → false ≡ is_over_below k id priority 0
 unfolding is_over_below
-over-none k id priority = refl
+over_none k id priority = refl
 
-pub over-more : (k : KernelState) (id priority at : ℕ) →
+pub over_more : (k : KernelState) (id priority at : ℕ) →
     (is_over_below k id priority at || (has_mutex_in id (object_at k.mutexes at) && is_over_mutex priority (object_at k.mutexes at))) ≡
     is_over_below k id priority (at + 1)
 unfolding is_over_below
-over-more k id priority at = ap (is_over_below k id priority) (next at)
+over_more k id priority at = ap (is_over_below k id priority) (next at)
 
-pub bases-none : (t : TaskTable) → replicate 256 0 ≡ bases_below t 0
+pub bases_none : (t : TaskTable) → replicate 256 0 ≡ bases_below t 0
 unfolding bases_below
-bases-none t = refl
+bases_none t = refl
 
-pub bases-more : (t : TaskTable) (id : ℕ) → slice_set (bases_below t id) id (base_in (task_at t id)) ≡ bases_below t (id + 1)
+pub bases_more : (t : TaskTable) (id : ℕ) → slice_set (bases_below t id) id (base_in (task_at t id)) ≡ bases_below t (id + 1)
 unfolding bases_below
-bases-more t id = ap (bases_below t) (next id)
+bases_more t id = ap (bases_below t) (next id)
 
-pub ceilings-none : (k : KernelState) → bases_below k.tasks 256 ≡ ceilings_below k 0
+pub ceilings_none : (k : KernelState) → bases_below k.tasks 256 ≡ ceilings_below k 0
 unfolding ceilings_below
-ceilings-none k = refl
+ceilings_none k = refl
 
-pub ceilings-more : (k : KernelState) (at : ℕ) → ceiling_in (object_at k.mutexes at) (ceilings_below k at) ≡ ceilings_below k (at + 1)
+pub ceilings_more : (k : KernelState) (at : ℕ) → ceiling_in (object_at k.mutexes at) (ceilings_below k at) ≡ ceilings_below k (at + 1)
 unfolding ceilings_below
-ceilings-more k at = ap (ceilings_below k) (next at)
+ceilings_more k at = ap (ceilings_below k) (next at)
 
-pub inheritors-none : (k : KernelState) → replicate 256 None ≡ inheritors_below k 0
+pub inheritors_none : (k : KernelState) → replicate 256 None ≡ inheritors_below k 0
 unfolding inheritors_below
-inheritors-none k = refl
+inheritors_none k = refl
 
-pub inheritors-more : (k : KernelState) (id : ℕ) →
+pub inheritors_more : (k : KernelState) (id : ℕ) →
     slice_set (inheritors_below k id) id (inheritor_for k (reason_of k id)) ≡ inheritors_below k (id + 1)
 unfolding inheritors_below
-inheritors-more k id = ap (inheritors_below k) (next id)
+inheritors_more k id = ap (inheritors_below k) (next id)
 
-pub prioritized-none : (k : KernelState) (priorities : List ℕ) → k ≡ prioritized_below k priorities 0
+pub prioritized_none : (k : KernelState) (priorities : List ℕ) → k ≡ prioritized_below k priorities 0
 unfolding prioritized_below
-prioritized-none k priorities = refl
+prioritized_none k priorities = refl
 
-pub prioritized-more : (k : KernelState) (priorities : List ℕ) (id : ℕ) →
+pub prioritized_more : (k : KernelState) (priorities : List ℕ) (id : ℕ) →
     prioritized_by (prioritized_below k priorities id) id (priority_at priorities id) (task_at (prioritized_below k priorities id).tasks id) ≡
     prioritized_below k priorities (id + 1)
 unfolding prioritized_below
-prioritized-more k priorities id = ap (prioritized_below k priorities) (next id)
+prioritized_more k priorities id = ap (prioritized_below k priorities) (next id)

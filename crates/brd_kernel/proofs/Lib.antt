@@ -18,3 +18,4 @@ pub mod SameLemmas
 pub mod AgainLemmas
 pub mod SpinLemmas
 pub mod ProfileLemmas
+pub mod PriorityLemmas

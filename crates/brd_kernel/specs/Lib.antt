@@ -8,6 +8,7 @@ pub mod Waiting
 pub mod Running
 pub mod Holding
 pub mod Always
+pub mod Prioritized
 pub mod Common
 pub mod Lending
 pub mod Making

@@ -19,6 +19,9 @@ ghost use Rattle.brd_kernel.specs.Services.{serve_of};
 ghost use Rattle.brd_kernel.specs.Making.{made_kernel};
 ghost use Rattle.brd_kernel.specs.Waiting.{WaitsAreKept};
 ghost use Rattle.brd_kernel.specs.Holding.{AreLocks};
+ghost use Rattle.brd_kernel.specs.Prioritized.{IsPrioritized};
+ghost use Rattle.brd_kernel.specs.Waits.{ceilings_below, inheritors_below, priorities_of};
+ghost use Rattle.brd_mutexes.specs.Lifting.{AreLifted};
 
 /// Of the reasons to refuse a call, the first in the order is answered; a call that has none does what its row says.
 pub fn checks_in_order<X>()
@@ -37,7 +40,7 @@ pub fn dispatch_gives_each_its_first()
 {}
 
 /// This holds of a kernel as it is made, and every service call, tick and exception keeps it: each task that waits for
-/// a semaphore, for bits of an event flag, or to send to or receive from a data queue stands once, with its priority,
+/// a semaphore, for bits of an event flag, for a mutex, or to send to or receive from a data queue stands once, with its priority,
 /// in the waiting list for just that, and in no other waiting list of an object; where that list is in the order of
 /// priority, no task stands in front of one with a higher priority; no task waits for something that it could have at
 /// once; only a task that waits has a due tick, and a delay has one.
@@ -71,4 +74,16 @@ pub fn a_spin_lock_has_one_holder()
     ensures tick { (k : KernelState) → AreLocks k → AreLocks (ticked k) }
     ensures fault { (k : KernelState) (cpu : ℕ) → AreLocks k → AreLocks (ended_by_fault k cpu) }
     ensures dispatch { (k : KernelState) → AreLocks k → AreLocks (dispatched k) }
+{}
+
+/// In a kernel with the profile each task has the current priority that it is to have, and every service call, tick and
+/// exception keeps that. It is the highest of its own, which is its base priority, or the ceiling of a mutex with
+/// TA_CEILING that it has, and of the current priorities of the tasks that wait for the mutexes with TA_INHERIT that it
+/// has, through chains of owners that wait themselves.
+pub fn tasks_have_their_priorities()
+    ensures rule { (k : KernelState) → AreLifted (ceilings_below k 256) (inheritors_below k 256) (priorities_of k) }
+    ensures call { (k : KernelState) (cpu : ℕ) (asked : CallOf) → IsPrioritized k →
+        IsPrioritized (serve_of k cpu asked).kernel }
+    ensures tick { (k : KernelState) → IsPrioritized k → IsPrioritized (ticked k) }
+    ensures fault { (k : KernelState) (cpu : ℕ) → IsPrioritized (ended_by_fault k cpu) }
 {}

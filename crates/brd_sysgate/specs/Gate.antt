@@ -132,6 +132,11 @@ profile_table =
     ∷ service 74 (codes "ref_sem") 2 place.Task (λ a. call.RefSem (a0 a) (a1 a))
     ∷ service 75 (codes "ref_flg") 2 place.Task (λ a. call.RefFlg (a0 a) (a1 a))
     ∷ service 76 (codes "ref_dtq") 2 place.Task (λ a. call.RefDtq (a0 a) (a1 a))
+    ∷ service 77 (codes "loc_mtx") 1 place.Waiting (λ a. call.TlocMtx (a0 a) forever)
+    ∷ service 78 (codes "ploc_mtx") 1 place.Task (λ a. call.TlocMtx (a0 a) poll)
+    ∷ service 79 (codes "tloc_mtx") 2 place.Waiting (λ a. call.TlocMtx (a0 a) (a1 a))
+    ∷ service 80 (codes "unl_mtx") 1 place.Task (λ a. call.UnlMtx (a0 a))
+    ∷ service 81 (codes "ref_mtx") 2 place.Task (λ a. call.RefMtx (a0 a) (a1 a))
     ∷ service 112 (codes "iget_pid") 0 place.Handler (λ a. call.GetPid)
     ∷ []
 

@@ -209,6 +209,11 @@ fn profile_service(number: u32, arguments: [u32; 4]) -> Option<Service>
         74 => (b"ref_sem", 2, Place::Task, Call::RefSem(a0, a1)),
         75 => (b"ref_flg", 2, Place::Task, Call::RefFlg(a0, a1)),
         76 => (b"ref_dtq", 2, Place::Task, Call::RefDtq(a0, a1)),
+        77 => (b"loc_mtx", 1, Place::Waiting, Call::TlocMtx(a0, FOREVER)),
+        78 => (b"ploc_mtx", 1, Place::Task, Call::TlocMtx(a0, POLL)),
+        79 => (b"tloc_mtx", 2, Place::Waiting, Call::TlocMtx(a0, a1)),
+        80 => (b"unl_mtx", 1, Place::Task, Call::UnlMtx(a0)),
+        81 => (b"ref_mtx", 2, Place::Task, Call::RefMtx(a0, a1)),
         112 => (b"iget_pid", 0, Place::Handler, Call::GetPid),
         _ => return None,
     };

@@ -138,6 +138,7 @@ impl Kernel {
     }
 
     /// Whether a priority is higher than the ceiling of one of the mutexes that a task has.
+    #[tactic(auto, using(crate::proofs::BelowLemmas::over_none, crate::proofs::BelowLemmas::over_more))]
     fn is_over_owned(&self, id: TaskId, priority: u8) -> bool
         ensures { result ≡ is_over_below self.now id priority 256 }
     {
@@ -186,6 +187,7 @@ impl Kernel {
     }
 
     /// A task gives back each mutex that it has.
+    #[tactic(auto, using(crate::proofs::BelowLemmas::given_none, crate::proofs::BelowLemmas::given_more))]
     fn give_each(&mut self, id: TaskId)
         ensures { self.new ≡ given_below self.old id 256 }
     {
@@ -224,6 +226,7 @@ impl Kernel {
     }
 
     /// The base priorities by ID.
+    #[tactic(auto, using(crate::proofs::BelowLemmas::bases_none, crate::proofs::BelowLemmas::bases_more))]
     fn bases(&self) -> [u8; 256]
         ensures { result ≡ bases_below self.now.tasks 256 }
     {
@@ -235,6 +238,7 @@ impl Kernel {
     }
 
     /// The base priorities by ID, but of the owner of a mutex with TA_CEILING its ceiling, where that is higher.
+    #[tactic(auto, using(crate::proofs::BelowLemmas::ceilings_none, crate::proofs::BelowLemmas::ceilings_more))]
     fn own_priorities(&self) -> [u8; 256]
         ensures { result ≡ ceilings_below self.now 256 }
     {
@@ -278,6 +282,7 @@ impl Kernel {
     }
 
     /// By ID: who has the mutex with TA_INHERIT that a task waits for.
+    #[tactic(auto, using(crate::proofs::BelowLemmas::inheritors_none, crate::proofs::BelowLemmas::inheritors_more))]
     fn inheritors(&self) -> [Option<TaskId>; 256]
         ensures { result ≡ inheritors_below self.now 256 }
     {
@@ -313,6 +318,7 @@ impl Kernel {
     }
 
     /// Gives each task the priority that stands for it.
+    #[tactic(auto, using(crate::proofs::BelowLemmas::prioritized_none, crate::proofs::BelowLemmas::prioritized_more))]
     fn give_priorities(&mut self, priorities: &[u8; 256])
         ensures { self.new ≡ prioritized_below self.old priorities.now 256 }
     {
