@@ -43,6 +43,8 @@ USES = {
     "sns_loc": (.2, .2, .1, ""), "sns_dsp": (.2, .2, .1, ""), "sns_dpn": (.2, .2, .1, ""),
     "frsm_tsk": (.3, 1, .1, "task"), "mget_tid": (.2, .4, .1, "processor"), "mrot_rdq": (.2, .5, .1, "priority processor"),
     "ref_tsk": (.5, 2, .1, "task word"), "ref_sem": (.3, .5, .1, "semaphore word"),
+    "loc_mtx": (5, 0, .1, "mutex"), "ploc_mtx": (1, 1, .1, "mutex"), "tloc_mtx": (5, .2, .1, "mutex timeout"),
+    "unl_mtx": (5, 1, .1, "mutex"), "ref_mtx": (.3, .5, .1, "mutex word"),
     "ref_flg": (.3, .5, .1, "flag word"), "ref_dtq": (.3, .5, .1, "queue word"), "iget_pid": (.1, .1, .5, ""),
 }
 THEMES = {
@@ -54,6 +56,7 @@ THEMES = {
     "tasks": "act_tsk can_act ter_tsk chg_pri get_pri mact_tsk mig_tsk rot_rdq irot_rdq imact_tsk iact_tsk",
     "held": "dis_dsp loc_cpu ter_tsk mig_tsk sus_tsk rsm_tsk act_tsk",
     "lock": "loc_spn try_spn unl_spn dis_dsp loc_cpu ter_tsk",
+    "mutex": "loc_mtx tloc_mtx ploc_mtx unl_mtx ref_mtx chg_pri get_pri rel_wai ter_tsk sus_tsk rsm_tsk",
     "profile": "get_tim set_tim sns_loc sns_dsp sns_dpn frsm_tsk mget_tid mrot_rdq ref_tsk ref_sem ref_flg ref_dtq",
 }
 # Loads and stores, and what their addresses have to be multiples of.
@@ -118,7 +121,7 @@ class Maker:
     def shape(self):
         """Which processors, tasks, objects and lines there are."""
         alone = self.often(.25) and self.theme not in ("links", "held", "lock")
-        self.standard = self.theme == "profile" or self.often(.5)
+        self.standard = self.theme in ("profile", "mutex") or self.often(.5)
         self.processors = 1 if alone else self.chance(2, 2, 2, 2, 3, 3, 4, 8)
         self.tasks = self.ids(self.random.randrange(4, 11))
         priorities = self.random.sample(range(1, 17), self.random.randrange(2, 6))
@@ -130,11 +133,12 @@ class Maker:
         if self.manager:
             self.priority[self.manager], self.place[self.manager] = self.chance(16, max(priorities)), self.processors
         self.others = [task for task in self.tasks if task != self.manager]
-        count = {"semaphore": 1, "flag": 1, "queue": 1, "receivers": 1, "lock": 1}.get(self.theme) or self.chance(0, 1, 1, 2)
+        count = {"semaphore": 1, "flag": 1, "queue": 1, "receivers": 1, "lock": 1, "mutex": 3}.get(self.theme) or self.chance(0, 1, 1, 2)
         self.semaphores = {key: self.new_semaphore() for key in self.ids(count)}
         self.flags = {key: self.new_flag() for key in self.ids(count)}
         self.queues = {key: (self.often(.6), self.chance(0, 0, 1, 1, 2, 3, 256)) for key in self.ids(count)}
         self.spin_locks = self.ids(count)
+        self.mutexes = {key: self.new_mutex() for key in self.ids(count)} if self.standard else {}
         lines = self.random.sample(range(32), self.random.randrange(5))
         self.lines = {line: self.random.randrange(1, self.processors + 1) for line in lines}
 
@@ -145,6 +149,10 @@ class Maker:
     def new_flag(self):
         return self.often(.6), self.often(.8), self.often(.5), self.chance(0, 0, 0, 1, 5, WORD)
 
+    def new_mutex(self):
+        protocol = self.chance(0, 1, 2, 2, 2, 3)
+        return protocol, self.random.randrange(int(protocol == 3), 17)
+
     # Calls
 
     def argument(self, kind, caller):
@@ -152,7 +160,7 @@ class Maker:
         if self.often(self.stray / 2):
             return self.chance(0, 0, 2, 17, 255, 256, self.processors + 1, WORD, WORD - 1, 0x80000000, 0x10001)
         known = {"semaphore": self.semaphores, "flag": self.flags, "queue": self.queues,
-                 "lock": self.spin_locks}.get(kind)
+                 "lock": self.spin_locks, "mutex": self.mutexes}.get(kind)
         if known is not None:
             return self.chance(*(known or [1]))
         if kind in ("task", "other"):
@@ -176,7 +184,7 @@ class Maker:
         arguments = given or [self.argument(kind, caller) for kind in USES[name][3].split()]
         for register, value in enumerate(arguments, 4):
             code.set(register, value)
-        code.set(2, NUMBERS.get(name) or self.chance(0, 42, 47, 59, 63, 77, 99, 0x101))
+        code.set(2, NUMBERS.get(name) or self.chance(0, 42, 47, 59, 63, 82, 99, 0x101))
         if self.often(.08):
             branch = self.chance("BEQ", "BEQ", "BGEZAL", "BNE", "BEQL")
             code.add(branch, immediate=self.random.randrange(1, 4))
@@ -388,7 +396,7 @@ class Maker:
         data = self.random.getrandbits(8 * 64).to_bytes(64, "big")
         segments = [(self.start, self.code), (DATA, data)]
         self.setup = Setup(self.processors, ram, self.order, segments, tasks, self.semaphores, self.flags, self.queues,
-                           self.spin_locks, lines, self.standard)
+                           self.spin_locks, lines, self.standard, self.mutexes)
         bound = [(it.processor, "CRE_TSK(%d, {%d, 0x%x, 0x%x, %d, %d, %s});" % (
             it.id, 2 * it.starts, it.argument, it.address, it.priority, it.size,
             "NULL" if it.stack is None else hex(it.stack))) for it in tasks]
@@ -401,6 +409,9 @@ class Maker:
                  for key, (by, many, clears, pattern) in self.flags.items()]
         text += [f"CRE_DTQ({key}, {{{int(by)}, {capacity}, NULL}});" for key, (by, capacity) in self.queues.items()]
         text += [f"CRE_SPN({key}, {{{self.chance('TA_NULL', 0)}}});" for key in self.spin_locks]
+        names = "TA_TFIFO", "TA_TPRI", "TA_INHERIT", "TA_CEILING"
+        text += [f"CRE_MTX({key}, {{{self.chance(names[protocol], protocol)}, {ceiling}}});"
+                 for key, (protocol, ceiling) in self.mutexes.items()]
         self.configuration = "\n".join(text) + "\n"
 
     def task_setup(self, task, ram):

@@ -13,15 +13,16 @@ E_OK, E_RSFN, E_PAR, E_ID, E_CTX, E_ILUSE = 0, -10, -17, -18, -25, -28
 E_OBJ, E_NOEXS, E_QOVR, E_RLWAI, E_TMOUT = -41, -42, -43, -49, -50
 ANSWERS = {value: name for name, value in list(globals().items()) if name.startswith("E_")}
 CONSOLE_BYTES = 65536
+TFIFO, TPRI, INHERIT, CEILING = range(4)
 # What a call writes to $v0 and $v1 where it waits or doesn't come back, and where it is just done; and what stands in
 # place of it where the call is to come again.
 SILENT, DONE, AGAIN = (), (E_OK,), ("again",)
 
 # What a board is made of. Objects stand by their IDs, lines by their numbers, tasks in the order of their statements;
-# `standard` where it has the profile.
+# `standard` where it has the profile, which alone has mutexes.
 Setup = collections.namedtuple("Setup",
-                               "processors ram order segments tasks semaphores flags queues spin_locks lines standard",
-                               defaults=[False])
+                               "processors ram order segments tasks semaphores flags queues spin_locks lines standard "
+                               "mutexes", defaults=[False, {}])
 TaskSetup = collections.namedtuple("TaskSetup", "id processor starts argument address priority size stack")
 
 
@@ -44,6 +45,7 @@ class Task:
         self.id, self.processor, self.initial_priority = setup.id, setup.processor, setup.priority
         self.argument, self.address, self.stack = setup.argument, setup.address, stack
         self.state, self.priority, self.request, self.wakeup = "dormant", setup.priority, None, False
+        self.base = setup.priority
         # The list that it waits in (of a semaphore, say, or of the sleepers), what it wants there, and until when.
         self.waits_in = self.wanted = self.due = None
         self.context = Context(self.address, self.argument, self.stack)
@@ -65,6 +67,18 @@ class Queue:
     def __init__(self, by_priority, capacity):
         self.capacity, self.data = capacity, collections.deque()
         self.senders, self.receivers = TaskList("sender", by_priority), TaskList("receiver", False)
+
+
+class Mutex:
+    """A mutex of a protocol (TFIFO, TPRI, INHERIT, CEILING); `owner` is the task that has it, if one does."""
+
+    def __init__(self, protocol, ceiling):
+        self.protocol, self.ceiling, self.owner = protocol, ceiling, None
+        self.waiters = TaskList("mutex", protocol != TFIFO)
+
+    def is_above(self, priority):
+        """Whether a priority is higher than its ceiling."""
+        return self.protocol == CEILING and priority < self.ceiling
 
 
 class SpinLock:
@@ -115,6 +129,7 @@ class Board:
         self.flags = {key: Flag(*it) for key, it in setup.flags.items()}
         self.queues = {key: Queue(*it) for key, it in setup.queues.items()}
         self.spin_locks = {key: SpinLock() for key in setup.spin_locks}
+        self.mutexes = {key: Mutex(*it) for key, it in sorted(setup.mutexes.items())}
         self.lines, self.pending = setup.lines, set()
         self.now, self.off, self.console = 0, False, bytearray()
         # (the system time before the first tick)
@@ -137,12 +152,15 @@ class Board:
 
     def start(self, task, processor):
         """Starts a dormant task, on a processor that stays its own."""
-        task.processor, task.priority = processor, task.initial_priority
+        task.processor, task.priority, task.base = processor, task.initial_priority, task.initial_priority
         task.context = Context(task.address, task.argument, task.stack)
         self.make_ready(task)
 
     def end(self, task):
-        """Makes a task dormant, and starts it again where a request is queued."""
+        """Makes a task dormant, without its mutexes, and starts it again where a request is queued."""
+        for it in self.mutexes.values():
+            if it.owner is task:
+                self.give(it)
         if task.state == "ready":
             self.leave_ready(task)
         self.leave_wait(task)
@@ -185,8 +203,30 @@ class Board:
             task.waits_in.remove(task)
             task.waits_in.enter(task)
 
+    def give(self, mutex):
+        """The first waiter has a mutex that is given back, if one waits."""
+        mutex.owner = mutex.waiters[0] if mutex.waiters else None
+        if mutex.owner:
+            self.release(mutex.owner, E_OK)
+
+    def lift(self):
+        """Each task has the highest of its base, its ceilings, and the priorities of who waits for what it has."""
+        mutexes = [it for it in self.mutexes.values() if it.owner]
+        ceilings = [it for it in mutexes if it.protocol == CEILING]
+        level = {task: min([task.base] + [it.ceiling for it in ceilings if it.owner is task])
+                 for task in self.tasks.values()}
+        while low := [(it.owner, task) for it in mutexes if it.protocol == INHERIT for task in it.waiters
+                      if level[task] < level[it.owner]]:
+            for owner, task in low:
+                level[owner] = min(level[owner], level[task])
+        for task, priority in level.items():
+            if task.priority != priority:
+                self.counts[f"mutex: {'lifts' if priority < task.priority else 'lowers'} a {task.state} task"] += 1
+                self.move(task, priority)
+
     def dispatch(self):
         """Each processor that isn't held runs the first of its ready tasks. Where that is another, its link ends."""
+        self.lift()
         for processor in self.processors.values():
             first = processor.ready[0] if processor.ready else None
             old = processor.running
@@ -344,7 +384,7 @@ class Request:
             if not 1 <= key <= 255:
                 return E_ID
             objects = {"S": self.board.semaphores, "F": self.board.flags, "Q": self.board.queues,
-                       "L": self.board.spin_locks}
+                       "L": self.board.spin_locks, "M": self.board.mutexes}
             self.object = objects.get(call.names, self.board.tasks).get(key)
         # (a call's timeout is -1, forever, or 0, a poll, or the argument that is named by A and its number)
         self.timeout = signed(self.arguments[int(call.timeout[1])]) if isinstance(call.timeout, str) else call.timeout
@@ -405,8 +445,17 @@ class Request:
         self.board.end(self.caller)
         return SILENT
 
+    def asked_priority(self):
+        return self.arguments[1] or self.object.initial_priority
+
     def chg_pri(self):
-        self.board.move(self.object, self.arguments[1] or self.object.initial_priority)
+        self.object.base = self.asked_priority()
+        self.board.move(self.object, self.object.base)
+
+    def is_above_a_ceiling(self):
+        """Whether the asked priority is higher than the ceiling of what the task has or waits for."""
+        return any(it.is_above(self.asked_priority()) for it in self.board.mutexes.values()
+                   if it.owner is self.object or self.object in it.waiters)
 
     def mig_tsk(self):
         """Own choice in part: the task may be in any state but dormant, and keeps it."""
@@ -512,6 +561,15 @@ class Request:
         """The processor takes a free lock; else the same SYSCALL comes again."""
         return AGAIN if self.object.holder else self.processor.take(self.object)
 
+    def loc_mtx(self):
+        if self.object.owner:
+            return self.wait(self.object.waiters)
+        self.object.owner = self.caller
+
+    def ref_mtx(self):
+        owner = self.object.owner
+        return E_OK, [owner.id if owner else 0, first(self.object.waiters)][self.arguments[1]]
+
     def put_chr(self):
         self.board.console.append(self.arguments[0] & 255)
 
@@ -537,7 +595,7 @@ class Request:
     def awaited_object(self, task):
         """The ID of the object that a task waits for, 0 where it waits for none."""
         board = self.board
-        for objects in (board.semaphores, board.flags, board.queues):
+        for objects in (board.semaphores, board.flags, board.queues, board.mutexes):
             for key, it in objects.items():
                 if any(task.waits_in is value for value in vars(it).values() if isinstance(value, TaskList)):
                     return key
@@ -547,10 +605,11 @@ class Request:
         """The words of T_RTSK: states and waits by the numbers of the specification."""
         task, waits_in = self.object, self.object.waits_in
         states = {"ready": 2, "waiting": 4, "suspended": 8, "waiting-suspended": 12, "dormant": 16}
-        waits = {"sleep": 1, "delay": 2, "semaphore": 4, "flag": 8, "sender": 16, "receiver": 32}
+        waits = {"sleep": 1, "delay": 2, "semaphore": 4, "flag": 8, "sender": 16, "receiver": 32,
+                 "mutex": 128}
         runs = self.board.processors[task.processor].running is task
         left = FOREVER if task.due is None else task.due - self.board.now - 1
-        return E_OK, [1 if runs else states[task.state], task.priority, task.priority,
+        return E_OK, [1 if runs else states[task.state], task.priority, task.base,
                       0 if waits_in is None else waits[waits_in.name], self.awaited_object(task),
                       0 if waits_in is None else left, int(task.request is not None), int(task.wakeup),
                       int(task.state in ("suspended", "waiting-suspended"))][self.arguments[1]]
@@ -600,6 +659,10 @@ OF_TWO, OF_THREE, OF_NINE = (lambda it, most=most: it.arguments[1] > most for mo
 # Why an object refuses, in the order of a row.
 ITSELF = E_ILUSE, lambda it: it.object is it.caller
 TAKEN = E_ILUSE, lambda it: not it.object.many and it.object.waiters
+HAS_IT = E_ILUSE, lambda it: it.object.owner is it.caller
+HAS_IT_NOT = E_ILUSE, lambda it: it.object.owner is not it.caller
+ABOVE = E_ILUSE, lambda it: it.object.is_above(it.caller.base)
+ABOVE_A_CEILING = E_ILUSE, Request.is_above_a_ceiling
 STORES_NONE = E_ILUSE, lambda it: it.object.capacity == 0
 DORMANT = E_OBJ, lambda it: it.object.state == "dormant"
 HELD = E_OBJ, Request.is_held_elsewhere
@@ -615,15 +678,15 @@ NOT_HELD_HERE = E_ILUSE, lambda it: it.object.holder is not it.processor
 HOLDS_A_LOCK = E_CTX, lambda it: it.processor.lock
 CONSOLE_FULL = E_QOVR, lambda it: len(it.board.console) == CONSOLE_BYTES
 
-# `names`: what $a0 is the ID of: a task, the caller too by 0 (T0), a semaphore, a flag, a queue, a spin lock (L), or of
-# nothing.
+# `names`: what $a0 is the ID of: a task, the caller too by 0 (T0), a semaphore, a flag, a queue, a spin lock (L), a
+# mutex (M), or of nothing.
 Call = collections.namedtuple("Call", "name place names timeout limits refusals effect")
 CALLS = {
     1: Call("act_tsk", TASK, "T0", None, [], [REQUESTED], Request.activate),
     2: Call("can_act", TASK, "T0", None, [], [], Request.can_act),
     3: Call("ext_tsk", LOCKED_TASK, "", None, [], [], Request.ext_tsk),
     4: Call("ter_tsk", TASK, "T", None, [], [ITSELF, DORMANT, HELD], lambda it: it.board.end(it.object)),
-    5: Call("chg_pri", TASK, "T0", None, [BAD_PRIORITY], [DORMANT], Request.chg_pri),
+    5: Call("chg_pri", TASK, "T0", None, [BAD_PRIORITY], [ABOVE_A_CEILING, DORMANT], Request.chg_pri),
     6: Call("get_pri", TASK, "T0", None, [], [DORMANT], lambda it: (E_OK, it.object.priority)),
     7: Call("mact_tsk", TASK, "T0", None, [BAD_PROCESSOR], [REQUESTED], Request.activate_there),
     8: Call("mig_tsk", ON_TASK, "T0", None, [BAD_PROCESSOR], [DORMANT, HELD, THERE], Request.mig_tsk),
@@ -687,5 +750,10 @@ CALLS = {
     74: Call("ref_sem", TASK, "S", None, [OF_TWO], [], Request.ref_sem),
     75: Call("ref_flg", TASK, "F", None, [OF_TWO], [], Request.ref_flg),
     76: Call("ref_dtq", TASK, "Q", None, [OF_THREE], [], Request.ref_dtq),
+    77: Call("loc_mtx", WAITING, "M", FOREVER, [], [HAS_IT, ABOVE], Request.loc_mtx),
+    78: Call("ploc_mtx", TASK, "M", POLL, [], [HAS_IT, ABOVE], Request.loc_mtx),
+    79: Call("tloc_mtx", WAITING, "M", "A1", [BAD_TIMEOUT], [HAS_IT, ABOVE], Request.loc_mtx),
+    80: Call("unl_mtx", TASK, "M", None, [], [HAS_IT_NOT], lambda it: it.board.give(it.object)),
+    81: Call("ref_mtx", TASK, "M", None, [OF_TWO], [], Request.ref_mtx),
     112: Call("iget_pid", HANDLER, "", None, [], [], lambda it: (E_OK, it.processor.number)),
 }

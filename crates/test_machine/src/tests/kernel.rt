@@ -1,13 +1,16 @@
 use super::configs::{flag, queue, semaphore, setup};
 use brd_base::NoMemory;
-use brd_config::{FlagConfig, QueueConfig, SemaphoreConfig, SpinLockConfig};
+use brd_config::{
+    FlagConfig, MutexConfig, Protocol, QueueConfig, SemaphoreConfig, SpinLockConfig,
+};
 use brd_kernel::{
     Call, Handler, Kernel, LineSetup, Marks, Reply, Sensed, Spin, Standing, TaskState,
 };
 use brd_tasks::are_setups;
 use std::alloc::Global;
 
-/// A kernel of two processors with these objects and with spin locks 1 and 255, of which these tasks have been started.
+/// A kernel of two processors with these objects, with spin locks 1 and 255, with mutexes 1 and 2 (TA_INHERIT) and 3
+/// (TA_CEILING, 4), of which these tasks have been started.
 /// Tasks 1 and 2 are of processor 1 and of priorities 2 and 3, tasks 3 and 4 of processor 2 and of priorities 5 and 9.
 fn of_four(
     alloc: Global,
@@ -26,6 +29,11 @@ fn of_four(
         return Err(NoMemory);
     }
     let locks = [SpinLockConfig { id: 1 }, SpinLockConfig { id: 255 }];
+    let mutexes = [
+        mutex(1, Protocol::Inherit, 0),
+        mutex(2, Protocol::Inherit, 0),
+        mutex(3, Protocol::Ceiling, 4),
+    ];
     let mut kernel = Kernel::new(
         alloc,
         true,
@@ -36,12 +44,27 @@ fn of_four(
         flags,
         queues,
         &locks,
+        &mutexes,
     )?;
     for id in started {
         kernel.start(*id);
     }
     let _ = kernel.dispatch();
     Ok(kernel)
+}
+
+/// A mutex.
+fn mutex(id: u16, protocol: Protocol, ceiling: u8) -> MutexConfig {
+    MutexConfig {
+        id,
+        protocol,
+        ceiling,
+    }
+}
+
+/// A kernel of which tasks 2 and 4 run.
+fn of_mutexes(alloc: Global) -> Result<Kernel, NoMemory> {
+    of_four(alloc, &[], &[], &[], &[2, 4])
 }
 
 /// A kernel without objects. Tasks 1 and 2 are ready on processor 1, and task 3 on processor 2; task 4 is dormant.
@@ -145,6 +168,7 @@ enum Scene {
     OfObjects,
     Objects,
     Calls,
+    Mutexes,
     Faults,
     NoLines,
 }
@@ -155,6 +179,7 @@ fn made(alloc: Global, scene: Scene) -> Result<Kernel, NoMemory> {
         Scene::OneProcessor => with_lines(alloc, false),
         Scene::EightProcessors => with_lines(alloc, true),
         Scene::OfObjects | Scene::Objects => with_objects(alloc),
+        Scene::Mutexes => of_mutexes(alloc),
         _ => two(alloc),
     }
 }
@@ -180,6 +205,7 @@ fn does(kernel: &mut Kernel, scene: Scene) -> bool {
         Scene::OfObjects => refuses_of_objects(kernel),
         Scene::Objects => first_other(kernel, CALLS_OF_OBJECTS).is_none(),
         Scene::Calls => serves_calls(kernel),
+        Scene::Mutexes => lifts(kernel),
         Scene::Faults => end_by_faults(kernel),
         Scene::NoLines => has_no_lines(kernel),
     }
@@ -360,6 +386,74 @@ fn spin_locks(rt: HostRuntime) {
     assert!(rt; goes_well(rt.alloc(), Scene::SpinLocks));
 }
 
+const CALLS_OF_MUTEXES: &[Served] = &[
+    // Task 4 has mutex 1, and task 2 mutex 2, for which task 1 waits: task 2 has its priority.
+    (2, Call::TlocMtx(1, FOREVER), OK, 0),
+    (1, Call::TlocMtx(2, FOREVER), OK, 0),
+    (1, Call::ActTsk(1), OK, 1),
+    (1, Call::TlocMtx(256, BAD), ID, 0),
+    (1, Call::TlocMtx(9, BAD), PAR, 0),
+    (1, Call::TlocMtx(9, FOREVER), NOEXS, 0),
+    (1, Call::TlocMtx(2, POLL), TMOUT, 0),
+    (1, Call::TlocMtx(2, FOREVER), Reply::Silent, 1),
+    (1, Call::GetPri(0), Reply::Answer(0, Some(2)), 0),
+    (2, Call::GetPri(0), Reply::Answer(0, Some(9)), 0),
+    // Task 2 waits for mutex 1: task 4 has the priority of task 1 too, over processors.
+    (1, Call::TlocMtx(1, FOREVER), Reply::Silent, 1),
+    (2, Call::GetPri(0), Reply::Answer(0, Some(2)), 0),
+    (2, Call::RefTsk(0, 2), Reply::Answer(0, Some(9)), 0),
+    (2, Call::RefTsk(2, 3), Reply::Answer(0, Some(128)), 0),
+    (2, Call::RefTsk(2, 4), Reply::Answer(0, Some(1)), 0),
+    (2, Call::RefMtx(1, 0), Reply::Answer(0, Some(4)), 0),
+    (2, Call::RefMtx(1, 1), Reply::Answer(0, Some(2)), 0),
+    (2, Call::RefMtx(9, 2), PAR, 0),
+    (2, Call::RefMtx(9, 1), NOEXS, 0),
+    (2, Call::ActTsk(3), OK, 0),
+    (2, Call::UnlMtx(2), ILUSE, 0),
+    (2, Call::UnlMtx(9), NOEXS, 0),
+    // Task 4 gives it to task 2 and comes down, so that task 3 runs.
+    (2, Call::UnlMtx(1), OK, 3),
+    (1, Call::GetPri(0), Reply::Answer(0, Some(2)), 0),
+    // Task 3 ends task 2, which gives both back: task 1 has mutex 2.
+    (2, Call::TerTsk(2), OK, 1),
+    (1, Call::RefMtx(1, 0), Reply::Answer(0, Some(0)), 0),
+    (1, Call::RefMtx(2, 0), Reply::Answer(0, Some(1)), 0),
+    (1, Call::TlocMtx(2, FOREVER), ILUSE, 0),
+    (1, Call::UnlMtx(2), OK, 0),
+    (1, Call::UnlMtx(2), ILUSE, 0),
+    // The ceiling: task 1 is above it, task 3 comes up to it.
+    (1, Call::TlocMtx(3, FOREVER), ILUSE, 0),
+    (2, Call::TlocMtx(3, POLL), OK, 0),
+    (2, Call::GetPri(0), Reply::Answer(0, Some(4)), 0),
+    (2, Call::ChgPri(0, 3), ILUSE, 0),
+    (2, Call::ChgPri(0, 6), OK, 0),
+    (2, Call::GetPri(0), Reply::Answer(0, Some(4)), 0),
+    (2, Call::UnlMtx(3), OK, 0),
+    (2, Call::GetPri(0), Reply::Answer(0, Some(6)), 0),
+    // A wait that ends by time.
+    (2, Call::TlocMtx(1, FOREVER), OK, 0),
+    (1, Call::TlocMtx(1, 0), TMOUT, 0),
+    (1, Call::TlocMtx(1, 1), Reply::Silent, 1),
+    (2, Call::GetPri(0), Reply::Answer(0, Some(2)), 0),
+];
+
+/// Whether tasks have the priorities that they inherit, until what they have is given back or nobody waits for it.
+fn lifts(kernel: &mut Kernel) -> bool {
+    first_other(kernel, CALLS_OF_MUTEXES).is_none()
+        && kernel.tick()
+        && kernel.tick()
+        && kernel.dispatch() == 1
+        && serves(kernel, 2, Call::GetPri(0), Reply::Answer(0, Some(6)), 0)
+        && serves(kernel, 2, Call::ExtTsk, Reply::Silent, 2)
+        && serves(kernel, 1, Call::TlocMtx(1, POLL), OK, 0)
+}
+
+/// Calls on mutexes: who has one, and which priorities tasks have by that.
+#[test]
+fn mutexes(rt: HostRuntime) {
+    assert!(rt; goes_well(rt.alloc(), Scene::Mutexes));
+}
+
 /// A kernel of eight processors, each idle, whose 32 lines all have handlers: on processor 1, or on each processor in
 /// turn.
 fn with_lines(alloc: Global, in_turn: bool) -> Result<Kernel, NoMemory> {
@@ -374,7 +468,7 @@ fn with_lines(alloc: Global, in_turn: bool) -> Result<Kernel, NoMemory> {
             lines[n].handler.cpu = 1 + n as u8 % 8;
         }
     }
-    Kernel::new(alloc, false, 8, &[], &lines, &[], &[], &[], &[])
+    Kernel::new(alloc, false, 8, &[], &lines, &[], &[], &[], &[], &[])
 }
 
 /// Whether a processor accepts the interrupt of a line, and no other until its handler has ended.
