@@ -65,7 +65,6 @@ entered-kept k caller id (No-room datum q there full) was =
 entered-kept k caller id (No-datum q there none) was =
     let p : ℕ = callers_priority k caller in
     queue-changed (awaited_by_receiver caller p) k id (λ x at. receiver-awaited caller p x (ap receipt_in (sym at ∙ there) ∙ none)) was
-
 entered-kept k caller id (No-mutex m there held) was =
     let p : ℕ = callers_priority k caller in
     mutex-changed (mutex_awaited caller p) k id (λ x at. mutex-awaited caller p x (ap has_owner_in (sym at ∙ there) ∙ held)) was

@@ -1,8 +1,6 @@
 use super::configs::{flag, queue, semaphore, setup};
 use brd_base::NoMemory;
-use brd_config::{
-    FlagConfig, MutexConfig, Protocol, QueueConfig, SemaphoreConfig, SpinLockConfig,
-};
+use brd_config::{FlagConfig, MutexConfig, Protocol, QueueConfig, SemaphoreConfig, SpinLockConfig};
 use brd_kernel::{
     Call, Handler, Kernel, LineSetup, Marks, Reply, Sensed, Spin, Standing, TaskState,
 };
