@@ -17,4 +17,5 @@ pub mod StoringLemmas
 pub mod BatchLemmas
 pub mod SpinLemmas
 pub mod ProfileLemmas
+pub mod PriorityLemmas
 mod LeaseLemmas

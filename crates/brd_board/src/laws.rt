@@ -16,6 +16,7 @@ ghost use Rattle.brd_kernel.specs.declared.call.Ercd.TheVariants.{Rsfn};
 ghost use Rattle.brd_kernel.specs.Kernel.{running_on, context_of, with_context_of};
 ghost use Rattle.brd_kernel.specs.Dispatch.{IsSettled, has_changed};
 ghost use Rattle.brd_kernel.specs.Waiting.{EachIsKept, WaitsAreKept};
+ghost use Rattle.brd_kernel.specs.Prioritized.{IsPrioritized};
 ghost use Rattle.brd_kernel.specs.Running.{is_ready_on, IsRunning, RunsOnce};
 ghost use Rattle.brd_kernel.specs.Holding.{AreLocks};
 ghost use Rattle.brd_sysgate.specs.Gate.{caller_of, read_of};
@@ -60,7 +61,8 @@ pub fn who_waits_stands_in_its_list()
 {}
 
 /// After every list of events from a boot no task waits for something that it could have at once: none for a wake-up
-/// that is queued; none for a semaphore whose count isn't 0; none for bits of an event flag while the pattern satisfies
+/// that is queued; none for a semaphore whose count isn't 0; none for a mutex that nobody has; none for bits of an event
+/// flag while the pattern satisfies
 /// the wait (TWF_ANDW: all of them are set; TWF_ORW: any of them), nor for an empty set of bits; none to send to a data
 /// queue that has room; none to receive from one that stores a datum, or to which another task waits to send one. And
 /// where waiters stand in the order of priority, none stands in front of one with a higher priority.
@@ -115,6 +117,14 @@ pub fn the_profile_alone_has_more_calls()
         (s : State) (cpu : ℕ) →
         boot image config ≡ Ok board → config.standard ≡ false → 62 < read s 2 →
         read_of s (caller_of (after board events).kernel cpu) ≡ Err Rsfn }
+{}
+
+/// With the profile each task has the current priority that it is to have: the highest of its own, which is its base
+/// priority, or the ceiling of a mutex with TA_CEILING that it has, and of the current priorities of the tasks that wait
+/// for the mutexes with TA_INHERIT that it has (`laws` of brd_kernel says by which rule). No event ends this.
+pub fn tasks_have_their_priorities()
+    ensures { (board : BoardState) (event : EventOf) →
+        IsPrioritized board.kernel → IsPrioritized (happens board event).board.kernel }
 {}
 
 /// A board that is off stays as it is: whatever happens, it reports Off and nothing else, and after every list of
