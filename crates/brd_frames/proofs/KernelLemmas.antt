@@ -26,6 +26,7 @@ of-with f g change k kind.Semaphore = refl
 of-with f g change k kind.Flag = refl
 of-with f g change k kind.Room = refl
 of-with f g change k kind.Datum = refl
+of-with f g change k kind.Mutex = refl
 
 pub changed_for-with : (f g : Contexts) (change : Change) (k : KernelState) (why : Option WaitReason) →
     changed_for change (k-with f g k) why ≡ k-with f g (changed_for change k why)

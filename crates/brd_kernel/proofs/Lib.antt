@@ -19,3 +19,4 @@ pub mod AgainLemmas
 pub mod SpinLemmas
 pub mod ProfileLemmas
 pub mod PriorityLemmas
+pub mod FreshLemmas

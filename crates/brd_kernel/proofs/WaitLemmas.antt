@@ -137,7 +137,7 @@ pub released-turn : (k new : KernelState) (flags : Table Flag) (id task pattern 
 released-turn k new flags id task pattern bits next flags_are is =
     subst (λ s. IsTurn k s id) (sym (is ∙ ap (λ t. released_in (with_flags k t) task e_ok (Some pattern)) flags_are)) (turn-of k id task pattern (object_at k.flags id) refl bits next)
 
-same-set : {A : Type 0} → (xs : List A) (i : ℕ) (d : A) → slice_set xs i (slice_index_or xs i d) ≡ xs
+pub same-set : {A : Type 0} → (xs : List A) (i : ℕ) (d : A) → slice_set xs i (slice_index_or xs i d) ≡ xs
 same-set [] i d = refl
 same-set (x ∷ xs) zero d = refl
 same-set (x ∷ xs) (suc i) d = ap (λ l. x ∷ l) (same-set xs i d)

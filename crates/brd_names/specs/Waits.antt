@@ -20,6 +20,7 @@ kind_text WaitKind.Semaphore = codes "for semaphore"
 kind_text WaitKind.Flag = codes "for event flag"
 kind_text WaitKind.Room = codes "to send to data queue"
 kind_text WaitKind.Datum = codes "to receive from data queue"
+kind_text WaitKind.Mutex = codes "for mutex"
 
 abbrev pub reason_text : WaitReason → List ℕ
 reason_text reason.Sleep = codes "for a wake-up"

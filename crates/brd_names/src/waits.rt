@@ -31,6 +31,7 @@ fn wait_name(kind: WaitKind) -> &'static str
         WaitKind::Flag => "for event flag",
         WaitKind::Room => "to send to data queue",
         WaitKind::Datum => "to receive from data queue",
+        WaitKind::Mutex => "for mutex",
     }
 }
 

@@ -137,6 +137,7 @@ fn put_wait(json: &mut Json, reason: WaitReason) -> Result<(), NoMemory> {
         WaitReason::On(WaitKind::Flag, id) => ("for event flag", id),
         WaitReason::On(WaitKind::Room, id) => ("to send to data queue", id),
         WaitReason::On(WaitKind::Datum, id) => ("to receive from data queue", id),
+        WaitReason::On(WaitKind::Mutex, id) => ("for mutex", id),
     };
     json.string(name.as_bytes())?;
     json.number(u64::from(id))

@@ -179,6 +179,9 @@ pub fn show_reason(alloc: Global, out: &mut Vec<u8>, reason: WaitReason) -> Resu
         WaitReason::On(WaitKind::Flag, object) => {
             show_number(alloc, out, "waits for event flag", object as u16)?
         }
+        WaitReason::On(WaitKind::Mutex, object) => {
+            show_number(alloc, out, "waits for mutex", object as u16)?
+        }
         WaitReason::On(WaitKind::Room, object) => {
             show_number(alloc, out, "waits to send to data queue", object as u16)?
         }

@@ -50,7 +50,7 @@ made_are n (suc (suc (suc (suc (suc (suc (suc (suc (suc cpu))))))))) few = grind
 -- the tasks that a boot has started
 abbrev booted_kernel_tasks : List TaskSetup → List LineSetup → Configuration → TaskTable
 booted_kernel_tasks s l config =
-    let first : KernelState = made_kernel config.standard config.processors s l config.semaphores config.flags config.queues config.spin_locks in
+    let first : KernelState = made_kernel config.standard config.processors s l config.semaphores config.flags config.queues config.spin_locks config.mutexes in
     all_started first.tasks config.tasks
 
 pub booted_are : (image : Image) (config : Configuration) (board : BoardState) (cpu : ℕ) → IsConfiguration config → boot image config ≡ Ok board

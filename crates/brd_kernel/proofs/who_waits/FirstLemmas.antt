@@ -116,7 +116,7 @@ some-first : {C X : Type 0} → (P : X → Type 0) (object_of : C → X) (found 
 some-first P object_of None first = tt
 some-first P object_of (Some c) first = first c
 
-each-first : {C X : Type 0} → (P : X → Type 0) (id_of : C → ℕ) (object_of : C → X) (configs : List C) (at : ℕ) → ((c : C) → P (object_of c)) →
+pub each-first : {C X : Type 0} → (P : X → Type 0) (id_of : C → ℕ) (object_of : C → X) (configs : List C) (at : ℕ) → ((c : C) → P (object_of c)) →
     IfSome (object_at (made_below id_of object_of configs 256) at) P
 each-first P id_of object_of configs at first =
     made-by (nat_lt at 256) id_of object_of configs 256 at (λ found. IfSome found P) refl tt
