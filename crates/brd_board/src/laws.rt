@@ -48,8 +48,8 @@ pub fn a_change_of_task_ends_the_link()
         linked_address (happens board event).board.links cpu ≡ None }
 {}
 
-/// After every list of events from a boot each task that waits for a semaphore, for bits of an event flag, or to send
-/// to or receive from a data queue stands once, with its priority, in the waiting list for just that, and in no other
+/// After every list of events from a boot each task that waits for a semaphore, for bits of an event flag, for a mutex,
+/// or to send to or receive from a data queue stands once, with its priority, in the waiting list for just that, and in no other
 /// waiting list of an object; where that list is in the order of priority, no task stands in front of one with a higher
 /// priority; no task waits for something that it could have at once; only a task that waits has a due tick, and a delay
 /// has one. No event ends this.
@@ -62,10 +62,9 @@ pub fn who_waits_stands_in_its_list()
 
 /// After every list of events from a boot no task waits for something that it could have at once: none for a wake-up
 /// that is queued; none for a semaphore whose count isn't 0; none for a mutex that nobody has; none for bits of an event
-/// flag while the pattern satisfies
-/// the wait (TWF_ANDW: all of them are set; TWF_ORW: any of them), nor for an empty set of bits; none to send to a data
-/// queue that has room; none to receive from one that stores a datum, or to which another task waits to send one. And
-/// where waiters stand in the order of priority, none stands in front of one with a higher priority.
+/// flag while the pattern satisfies the wait (TWF_ANDW: all of them are set; TWF_ORW: any of them), nor for an empty set
+/// of bits; none to send to a data queue that has room; none to receive from one that stores a datum, or to which
+/// another task waits to send one. And where waiters stand in the order of priority, none stands in front of one with a higher priority.
 ///
 /// This is the part `each` of `WaitsAreKept`, and speaks of the waiting lists; that each task that waits for an object
 /// stands in its list is said by `who_waits_stands_in_its_list`.
@@ -119,11 +118,14 @@ pub fn the_profile_alone_has_more_calls()
         read_of s (caller_of (after board events).kernel cpu) ≡ Err Rsfn }
 {}
 
-/// With the profile each task has the current priority that it is to have: the highest of its own, which is its base
-/// priority, or the ceiling of a mutex with TA_CEILING that it has, and of the current priorities of the tasks that wait
-/// for the mutexes with TA_INHERIT that it has (`laws` of brd_kernel says by which rule). No event ends this.
+/// After every list of events from a boot, with the profile, each task has the current priority that it is to have: the
+/// highest of its own, which is its base priority, or the ceiling of a mutex with TA_CEILING that it has, and of the
+/// current priorities of the tasks that wait for the mutexes with TA_INHERIT that it has (`laws` of brd_kernel says by
+/// which rule). No event ends this.
 pub fn tasks_have_their_priorities()
-    ensures { (board : BoardState) (event : EventOf) →
+    ensures boot { (image : ImageOf) (config : Configuration) (board : BoardState) (events : List EventOf) →
+        boot image config ≡ Ok board → IsPrioritized (after board events).kernel }
+    ensures event { (board : BoardState) (event : EventOf) →
         IsPrioritized board.kernel → IsPrioritized (happens board event).board.kernel }
 {}
 

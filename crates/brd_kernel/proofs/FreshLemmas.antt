@@ -33,14 +33,14 @@ use Rattle.brd_kernel.proofs.who_waits.FirstLemmas.{each-first}
 use Rattle.brd_kernel.proofs.nobody_waits.TableLemmas.{set-keeps}
 
 -- a task that has its base priority, and waits for nothing
-record IsFresh (task : Task) : Type 0 where
-  base : task.base ≡ task.priority
-  free : waiting_of task.status ≡ None
+pub record IsFresh (task : Task) : Type 0 where
+  pub base : task.base ≡ task.priority
+  pub free : waiting_of task.status ≡ None
 
-abbrev FreshRow : Option Task → Type 0
+abbrev pub FreshRow : Option Task → Type 0
 FreshRow row = IfSome row (λ task. IsFresh task)
 
-abbrev AreFresh : TaskTable → Type 0
+abbrev pub AreFresh : TaskTable → Type 0
 AreFresh t = (id : ℕ) → FreshRow (task_at t id)
 
 pub record Fresh (k : KernelState) : Type 0 where

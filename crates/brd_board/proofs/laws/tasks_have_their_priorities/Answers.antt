@@ -1,5 +1,8 @@
-use Rattle.brd_board.proofs.PriorityLemmas.{happens-has}
+use Rattle.brd_board.proofs.PriorityLemmas.{boot-has, happens-has}
 use Rattle.brd_board.proofs.laws.tasks_have_their_priorities.Goals as goal
 
-pub returns : goal.returns
-returns c = happens-has
+pub returns-clause-boot : goal.returns-clause-boot
+returns-clause-boot c = boot-has
+
+pub returns-clause-event : goal.returns-clause-event
+returns-clause-event c = happens-has
