@@ -1,6 +1,6 @@
 -- What giving mutexes back and giving priorities leaves: what each of their steps leaves.
 use Rattle.std.proofs.Common.{◌≡◌, ℕ, zero, suc, List, refl}
-use Rattle.std.specs.Prelude.{◌==◌, Option, None, Some}
+use Rattle.std.specs.Prelude.{◌==◌, if◌then◌else◌, Option, None, Some}
 use Rattle.brd_tasks.specs.declared.task.Task.{Task}
 use Rattle.brd_tasks.specs.Status.{waiting_of}
 use Rattle.brd_tasks.specs.Tasks.{task_at}

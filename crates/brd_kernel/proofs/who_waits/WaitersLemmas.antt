@@ -78,7 +78,7 @@ receiver-rewrites f k id q there same _ = refl
 
 -- All objects of a kind are changed: what a change makes of each list it makes of all of that kind.
 
-mapped-at : {X : Type 0} → (f : X → X) (table : Table X) (at : ℕ) → object_at (objects_changed f table) at ≡ option_map f (object_at table at)
+pub mapped-at : {X : Type 0} → (f : X → X) (table : Table X) (at : ℕ) → object_at (objects_changed f table) at ≡ option_map f (object_at table at)
 mapped-at f [] at = refl
 mapped-at f (x ∷ xs) zero = refl
 mapped-at f (x ∷ xs) (suc at) = mapped-at f xs at
