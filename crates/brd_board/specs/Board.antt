@@ -12,7 +12,7 @@ use Rattle.brd_kernel.specs.declared.processor.Processor.{Processor}
 use Rattle.brd_kernel.specs.declared.processor.Standing.{Standing}
 use Rattle.brd_kernel.specs.declared.processor.Spin.{Spin}
 use Rattle.brd_kernel.specs.Kernel.{KernelState, processor_at, context_on, deliverable, accepted_line, with_pending}
-use Rattle.brd_kernel.specs.Kernel.{line_at, standing_on, spin_of}
+use Rattle.brd_kernel.specs.Kernel.{line_at, standing_on, spin_of, owner_of}
 use Rattle.brd_kernel.specs.Waits.{ended_by_fault, ticked_on, seen_at}
 use Rattle.brd_kernel.specs.Dispatch.{dispatched, changed_processors}
 use Rattle.brd_sysgate.specs.Gate.{called}
@@ -141,6 +141,10 @@ fault_of b cpu = slice_index_or b.faults cpu None
 -- a spin lock as it stands, where one of that ID is configured
 abbrev pub spin_lock_of : BoardState → ℕ → Option Spin
 spin_lock_of b id = spin_of b.kernel id
+
+-- who has a mutex, if one of that ID is configured and a task has it
+abbrev pub mutex_owner_of : BoardState → ℕ → Option ℕ
+mutex_owner_of b id = owner_of b.kernel id
 
 -- a task as it stands
 abbrev pub task_of : BoardState → ℕ → Option TaskView

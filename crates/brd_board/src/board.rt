@@ -20,6 +20,7 @@ ghost use Rattle.brd_board.specs.Board.{
   fault_of,
   task_of,
   spin_lock_of,
+  mutex_owner_of,
 };
 ghost use Rattle.brd_board.specs.Words.{word_from, word_at};
 ghost use Rattle.brd_board.specs.declared.event.Event.TheVariants.{Step};
@@ -418,6 +419,13 @@ impl Board {
         ensures { result ≡ spin_lock_of self.now id }
     {
         self.kernel.spin(id)
+    }
+
+    /// The task that has the mutex of an ID, if one does.
+    pub fn mutex_owner(&self, id: u16) -> Option<TaskId>
+        ensures { result ≡ mutex_owner_of self.now id }
+    {
+        self.kernel.mutex_owner(id)
     }
 
     /// Whether an interrupt is pending on a line: raised, and accepted by no processor since.

@@ -8,7 +8,7 @@ use Rattle.brd_time.specs.Time.{Time}
 use Rattle.brd_objects.specs.declared.semaphore.Semaphore.{Semaphore}
 use Rattle.brd_objects.specs.declared.flag.Flag.{Flag}
 use Rattle.brd_objects.specs.declared.mutex.Mutex.{Mutex}
-use Rattle.brd_objects.specs.Table.{Table}
+use Rattle.brd_objects.specs.Table.{Table, object_at}
 use Rattle.brd_objects.specs.DataQueues.{DataQueueState}
 use Rattle.brd_kernel.specs.declared.processor.Processor.{Processor}
 use Rattle.brd_kernel.specs.declared.processor.Handler.{Handler}
@@ -199,6 +199,15 @@ has_spin_lock k id = slice_index_or k.spin_locks id false
 -- a spin lock as it stands, where there is one of that ID
 abbrev pub spin_of : KernelState → ℕ → Option Spin
 spin_of k id = if has_spin_lock k id then Some (spin_by (holder_from id 0 k.processors)) else None
+
+-- who has a mutex, if there is one of that ID and a task has it
+
+abbrev pub owner_in : Option Mutex → Option ℕ
+owner_in None = None
+owner_in (Some m) = m.owner
+
+abbrev pub owner_of : KernelState → ℕ → Option ℕ
+owner_of k id = owner_in (object_at k.mutexes id)
 
 -- What is seen of a processor.
 

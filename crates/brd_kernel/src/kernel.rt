@@ -17,6 +17,7 @@ ghost use Rattle.brd_kernel.specs.Kernel.{
   with_context_of,
   marks_of,
   has_spin_lock,
+  owner_of,
   spin_of,
   standing_on,
 };
@@ -278,6 +279,16 @@ impl Kernel {
         match holder(&self.common.processors, id) {
             Some(cpu) => Some(Spin::Held(cpu)),
             None => Some(Spin::Free),
+        }
+    }
+
+    /// The task that has the mutex of an ID, if one does.
+    pub fn mutex_owner(&self, id: u16) -> Option<TaskId>
+        ensures { result ≡ owner_of self.now id }
+    {
+        match self.mutexes.mutex(id) {
+            Some(mutex) => mutex.owner(),
+            None => None,
         }
     }
 
