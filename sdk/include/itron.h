@@ -64,6 +64,10 @@ typedef struct t_rdtq {
     ID rtskid;                          /* and to receive */
     UINT sdtqcnt;                       /* how many data are stored */
 } T_RDTQ;
+typedef struct t_rmtx {
+    ID htskid;                          /* who has it */
+    ID wtskid;                          /* who waits first */
+} T_RMTX;
 
 #ifndef NULL
 #define NULL ((void *)0)
@@ -129,6 +133,7 @@ typedef struct t_rdtq {
 #define TTW_FLG 0x08u
 #define TTW_SDTQ 0x10u
 #define TTW_RDTQ 0x20u
+#define TTW_MTX 0x80u
 
 #define TWF_ANDW 0u                     /* wai_flg: all of the bits, or any */
 #define TWF_ORW 1u
@@ -143,6 +148,8 @@ typedef struct t_rdtq {
 #define TA_WSGL 0x00u
 #define TA_WMUL 0x02u
 #define TA_CLR 0x04u
+#define TA_INHERIT 0x02u
+#define TA_CEILING 0x03u
 
 #endif
 #endif

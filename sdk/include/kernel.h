@@ -146,6 +146,13 @@ KERNEL_CALL ER ref_sem(ID semid, T_RSEM *pk_rsem) { return kernel_words(74, semi
 KERNEL_CALL ER ref_flg(ID flgid, T_RFLG *pk_rflg) { return kernel_words(75, flgid, (UINT *)pk_rflg, 2); }
 KERNEL_CALL ER ref_dtq(ID dtqid, T_RDTQ *pk_rdtq) { return kernel_words(76, dtqid, (UINT *)pk_rdtq, 3); }
 
+/* Mutexes. */
+KERNEL_CALL ER loc_mtx(ID mtxid) { return kernel_1(77, mtxid).first; }
+KERNEL_CALL ER ploc_mtx(ID mtxid) { return kernel_1(78, mtxid).first; }
+KERNEL_CALL ER tloc_mtx(ID mtxid, TMO tmout) { return kernel_2(79, mtxid, tmout).first; }
+KERNEL_CALL ER unl_mtx(ID mtxid) { return kernel_1(80, mtxid).first; }
+KERNEL_CALL ER ref_mtx(ID mtxid, T_RMTX *pk_rmtx) { return kernel_words(81, mtxid, (UINT *)pk_rmtx, 2); }
+
 /* The board's own: a byte to the console, and the end. */
 KERNEL_CALL ER put_chr(char byte) { return kernel_1(40, (UB)byte).first; }
 KERNEL_CALL ER ext_ker(void) { return kernel_0(41).first; }

@@ -123,6 +123,25 @@ static void references(void)
     printf("%d and %d wait, %d are there\n", queue.stskid, queue.rtskid, queue.sdtqcnt);
 }
 
+static void mutexes(void)
+{
+    T_RMTX mutex;
+    SAY(ploc_mtx(ONE));
+    SAY(loc_mtx(ONE));
+    SAY(ref_mtx(ONE, &mutex));
+    printf("%d has it, %d waits\n", mutex.htskid, mutex.wtskid);
+    SAY(unl_mtx(ONE));
+    SAY(unl_mtx(ONE));
+    SAY(tloc_mtx(99, 5));
+    SAY(tloc_mtx(TWO, 5));
+    task(TSK_SELF);
+    SAY(chg_pri(TSK_SELF, 2));
+    SAY(chg_pri(TSK_SELF, 4));
+    task(TSK_SELF);
+    SAY(unl_mtx(TWO));
+    task(TSK_SELF);
+}
+
 void all_calls(VP_INT unused)
 {
     SYSTIM result;
@@ -131,6 +150,7 @@ void all_calls(VP_INT unused)
     marks();
     processors();
     references();
+    mutexes();
     slp_tsk();
     for (INT i = 0; i < calls; i++)
         printf("in the handler: %s = %d\n", handled[i].call, handled[i].answer);
