@@ -141,7 +141,8 @@ abbrev pub explore : App
 explore = command_with (codes "explore") (map needed pair ++ bounds ++ checks ++ searching)
 
 abbrev pub shrink : App
-shrink = command_with (codes "shrink") (map needed inputs ++ checks ++ option (codes "OUT") (codes "out") ∷ data_option ∷ [])
+shrink =
+    command_with (codes "shrink") (map needed inputs ++ checks ++ option (codes "OUT") (codes "out") ∷ data_option ∷ [])
 
 -- the commands in the order in which a newcomer meets them
 abbrev pub board : App

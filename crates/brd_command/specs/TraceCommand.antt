@@ -203,7 +203,8 @@ pub record WritesTrace (start : Start) (options : TraceOptions) (old new : Optio
       (end_of options (length start.journal.events)) first old new
 
 -- a timeline from one position to another was written as trace events in JSON, whose slices are of what goes on
-pub record WritesTimeline (boot : BoardState) (events : List Event) (from to : ℕ) (old new : Option (List ℕ)) : Type 0 where
+pub record WritesTimeline (boot : BoardState) (events : List Event) (from to : ℕ) (old new : Option (List ℕ)) :
+    Type 0 where
   pub timeline : Timeline
   pub are_slices : AreSlices boot events from to timeline
   pub written : Appends old new (json_text timeline)

@@ -46,7 +46,8 @@ KeepsFromTryingIt options source fault =
     ((is_object_file source ≡ false) × KeepsFromAssembling source fault) ⊎ IsUntried options source fault
 
 -- what was run is told by what was written
-pub record Tries (options : TryOptions) (source object config journal : List ℕ) (old new : Option (List ℕ)) : Type 0 where
+pub record Tries (options : TryOptions) (source object config journal : List ℕ) (old new : Option (List ℕ)) :
+    Type 0 where
   pub told : List ℕ
   pub tried : IsTriedOf options source object config journal told
   pub written : Appends old new told
@@ -96,7 +97,8 @@ pub data SavesPage {F W : Type 0} (created : F → List ℕ → Result W Error �
       SavesPage created closed contents old name object config journal result new
   no_page : {fault : CommandFault} → KeepsFromMaking input_name.Journal object config journal fault →
       result ≡ Err fault → new ≡ old → SavesPage created closed contents old name object config journal result new
-  paged : {page : List ℕ} → IsPageOf object config journal page → Saves created closed contents old name page result new →
+  paged : {page : List ℕ} → IsPageOf object config journal page →
+      Saves created closed contents old name page result new →
       SavesPage created closed contents old name object config journal result new
 
 -- SOURCE is opened, then read. Only after what was run is told, the files for the configuration and the journal are

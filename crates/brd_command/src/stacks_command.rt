@@ -63,7 +63,8 @@ pub(crate) fn play<P: Progress>(
     requires calm { some_overflow following.old.tracks.items ≡ false }
     ensures within { OnOk result (following.new.playback.at ≤ to) }
     ensures ends { OnOk result ((following.new.playback.at ≡ to) ⊎ (some_overflow following.new.tracks.items ≡ true)) }
-    ensures followed { (boot : BoardOf) (stacks : ListOf StackOf) → IsFollowed boot journal.now.events stacks following.old
+    ensures followed { (boot : BoardOf) (stacks : ListOf StackOf) →
+        IsFollowed boot journal.now.events stacks following.old
         → OnOk result (IsFollowed boot journal.now.events stacks following.new) }
 {
     while following.playback.at < to {

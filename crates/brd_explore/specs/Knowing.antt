@@ -47,14 +47,16 @@ AreDone wanted among known = All (λ slot. IfSome slot (λ k. NoneGoes wanted am
 abbrev pub IsPending : Wanted → List Event → Search → Kept → Type 0
 IsPending wanted among s k =
     NoneGoes wanted among (spot_of_kept k)
-    ⊎ ((k.height ≤ length s.saved.items) × (NoneLeftFrom wanted among k.height s → NoneGoes wanted among (spot_of_kept k)))
+    ⊎ ((k.height ≤ length s.saved.items) × (NoneLeftFrom wanted among k.height s
+    → NoneGoes wanted among (spot_of_kept k)))
 
 abbrev pub ArePending : Wanted → List Event → Search → Known → Type 0
 ArePending wanted among s known = All (IsPending wanted among s) known.pending.items
 
 -- from none of the pending places at this height or above a schedule fails
 abbrev pub AreOver : Wanted → List Event → ℕ → Known → Type 0
-AreOver wanted among height known = All (λ k. height ≤ k.height → NoneGoes wanted among (spot_of_kept k)) known.pending.items
+AreOver wanted among height known =
+    All (λ k. height ≤ k.height → NoneGoes wanted among (spot_of_kept k)) known.pending.items
 
 -- what a search knows of the places that it keeps
 pub record Knows (wanted : Wanted) (among : List Event) (s : Search) (known : Known) : Type 0 where

@@ -98,7 +98,8 @@ abbrev pub access_text : Form → Part → Option Access → List ℕ
 access_text form part None = []
 access_text form part (Some it) =
     cell_text form.names form.order part it.address it.word
-    ++ (if form.old && has_stored it.kind then old_text form.order part it.address it.word else []) ++ outcome_text it.kind
+    ++ (if form.old && has_stored it.kind then old_text form.order part it.address it.word else [])
+    ++ outcome_text it.kind
 
 -- ---- where it leads
 

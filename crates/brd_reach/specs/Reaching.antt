@@ -67,7 +67,8 @@ abbrev pub Guards : Sharing → Wanted → Type 0
 Guards by wanted = All (IsGuarded by) wanted.failures
 
 -- A tree of places, what failures watch being shared, of which none fails.
-pub record IsClosed (by : Sharing) (among : List Event) (wanted : Wanted) (In : Left → BoardState → Type 0) : Type 0 where
+pub record IsClosed (by : Sharing) (among : List Event) (wanted : Wanted) (In : Left → BoardState → Type 0) :
+    Type 0 where
   pub tree : IsTree by Left (pays among) In
   pub guards : Guards by wanted
   pub holds : (left : Left) (b : BoardState) → In left b → fails_there wanted b left ≡ false

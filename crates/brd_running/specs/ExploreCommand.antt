@@ -168,7 +168,8 @@ pub data ExploreFilesEnd {F R W : Type 0}
       (λ file. IfSome (remaining pair.config) (λ statements. IsExplored options file statements text None)) →
       AreWritten text result before after →
       ExploreFilesEnd opened created closed remaining contents old image config options out before after result new
-  found : {pair : Pair R} {read : F} (text journal : List ℕ) {saved : Result Unit CommandFault} (told : Result Unit CommandFault) →
+  found : {pair : Pair R} {read : F} (text journal : List ℕ) {saved : Result Unit CommandFault}
+      (told : Result Unit CommandFault) →
       OpensPair opened old image config (Ok pair) read →
       IfSome (remaining pair.image)
       (λ file. IfSome (remaining pair.config) (λ statements. IsExplored options file statements text (Some journal))) →

@@ -25,7 +25,8 @@ use Rattle.brd_running.specs.declared.shrink_command.ShrinkOptions.{ShrinkOption
 
 -- What the options look for on a board.
 abbrev pub IsLookedFor : ShrinkOptions → Start → Wanted → Type 0
-IsLookedFor options start wanted = IsWanted options.looks options.fair (processors_of start.board) start.image.symbols wanted
+IsLookedFor options start wanted =
+    IsWanted options.looks options.fair (processors_of start.board) start.image.symbols wanted
 
 -- Some of a journal's events, with no more switches, which fail still. They would no more without any one of them, nor
 -- with fewer switches where a turn is moved to another cut. And the text of the journal of them, and of the fair end's
@@ -113,7 +114,8 @@ pub data ShrinkFilesEnd {F R W : Type 0}
       RefusesShrinking options file statements events fault))) →
       result ≡ Err fault → before ≡ after →
       ShrinkFilesEnd opened created closed remaining contents old image config journal options out before after result new
-  shrunk : {inputs : Inputs R} {read : F} (text left : List ℕ) {saved : Result Unit CommandFault} (told : Result Unit CommandFault) →
+  shrunk : {inputs : Inputs R} {read : F} (text left : List ℕ) {saved : Result Unit CommandFault}
+      (told : Result Unit CommandFault) →
       OpensInputs opened old image config journal (Ok inputs) read →
       IfSome (remaining inputs.image)
       (λ file. IfSome (remaining inputs.config) (λ statements. IfSome (remaining inputs.last) (λ events.

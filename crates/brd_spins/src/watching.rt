@@ -74,7 +74,8 @@ impl Watching {
 /// Whether a processor spins, and isn't in its loop on a board.
 fn is_away(board: &Board, cpu: u8, turning: &Turning) -> bool
     ensures away { result ≡ true → IsThere board.now cpu turning.now.who turning.now.states → ⊥ }
-    ensures there { result ≡ false → turning.now.what ≢ None → IsThere board.now cpu turning.now.who turning.now.states }
+    ensures there { result ≡ false → turning.now.what ≢ None →
+        IsThere board.now cpu turning.now.who turning.now.states }
 {
     if turning.what.is_none() {
         return false;

@@ -9,7 +9,8 @@ use Rattle.brd_stacks.specs.Depths.{AreFollowed, IsSoonest}
 use Rattle.brd_stacks.specs.declared.following.Following.{Following}
 use Rattle.brd_stacks.specs.Points.{points_from}
 
-pub record IsFollowed (boot : BoardState) (events : List Event) (stacks : List Stack) (following : Following) : Type 0 where
+pub record IsFollowed (boot : BoardState) (events : List Event) (stacks : List Stack) (following : Following) :
+    Type 0 where
   pub played : IsPlayed boot events following.playback
   pub tracks : AreFollowed stacks (points_from 0 boot (take following.playback.at events)) following.tracks.items
   pub soonest : IsSoonest stacks (points_from 0 boot (take following.playback.at events))

@@ -63,7 +63,8 @@ handler_stack symbols line =
 
 abbrev pub handler_stacks : List Symbol → List HandlerConfig → List Stack
 handler_stacks symbols [] = []
-handler_stacks symbols (handler ∷ handlers) = cons_option (handler_stack symbols handler.line) (handler_stacks symbols handlers)
+handler_stacks symbols (handler ∷ handlers) =
+    cons_option (handler_stack symbols handler.line) (handler_stacks symbols handlers)
 
 -- the stacks of a configuration: the first one that it leaves open ends where RAM ends
 abbrev pub stacks_of : List Symbol → ℕ → List TaskConfig → List HandlerConfig → List Stack

@@ -34,7 +34,8 @@ impl Following {
     pub fn new(alloc: Global, board: Board, stacks: &[Stack]) -> Result<Following, NoMemory>
         ensures start { IfOk result (λ following. following.playback ≡ record { board = board; at = 0 }) }
         ensures calm { IfOk result (λ following. some_overflow following.tracks.items ≡ false) }
-        ensures followed { IfOk result (λ following. (events : ListOf EventOf) → IsFollowed board events stacks.now following) }
+        ensures followed { IfOk result (λ following. (events : ListOf EventOf) →
+            IsFollowed board events stacks.now following) }
     {
         Ok(Following {
             playback: Playback { board, at: 0 },
@@ -52,7 +53,8 @@ impl Following {
         ensures at { self.new.playback.at ≤ to }
         ensures goes { OnOk result (self.old.playback.at < to → self.old.playback.at < self.new.playback.at) }
         ensures ends { OnOk result ((self.new.playback.at ≡ to) ⊎ (some_overflow self.new.tracks.items ≡ true)) }
-        ensures followed { (boot : BoardOf) (stacks : ListOf StackOf) → IsFollowed boot journal.now.events stacks self.old
+        ensures followed { (boot : BoardOf) (stacks : ListOf StackOf) →
+            IsFollowed boot journal.now.events stacks self.old
             → OnOk result (IsFollowed boot journal.now.events stacks self.new) }
     {
         while self.playback.at < to {
@@ -72,7 +74,8 @@ impl Following {
         requires calm { some_overflow self.old.tracks.items ≡ false }
         ensures at { self.new.playback.at ≤ to }
         ensures goes { self.old.playback.at < to → self.old.playback.at < self.new.playback.at }
-        ensures followed { (boot : BoardOf) (stacks : ListOf StackOf) → IsFollowed boot journal.now.events stacks self.old
+        ensures followed { (boot : BoardOf) (stacks : ListOf StackOf) →
+            IsFollowed boot journal.now.events stacks self.old
             → OnOk result (IsFollowed boot journal.now.events stacks self.new) }
     {
         if self.playback.at >= to {
@@ -129,7 +132,8 @@ fn follow_if(tracks: &mut Vec<Track>, point: Option<Point>)
     ensures followed { (stacks : ListOf StackOf) (points : ListOf PointOf) → AreFollowed stacks points tracks.old.items
         → AreFollowed stacks (points ++ cons_option point []) tracks.new.items }
     ensures soonest { (stacks : ListOf StackOf) (points : ListOf PointOf) → AreFollowed stacks points tracks.old.items
-        → some_overflow tracks.old.items ≡ false → IsSoonest stacks points → IsSoonest stacks (points ++ cons_option point []) }
+        → some_overflow tracks.old.items ≡ false → IsSoonest stacks points →
+        IsSoonest stacks (points ++ cons_option point []) }
 {
     match point {
         Some(point) => follow(tracks, point),

@@ -128,7 +128,8 @@ pub fn tracks_of(alloc: Global, stacks: &[Stack]) -> Result<Vec<Track>, NoMemory
 
 /// What is told of stacks after a point more.
 pub fn follow(tracks: &mut Vec<Track>, point: Point)
-    ensures followed { (stacks : ListOf StackOf) (points : ListOf PointOf) → AreFollowed stacks points tracks.old.items →
+    ensures followed { (stacks : ListOf StackOf) (points : ListOf PointOf) →
+        AreFollowed stacks points tracks.old.items →
         AreFollowed stacks (points ++ point ∷ []) tracks.new.items }
     // Where no store below a stack was told, none comes before this point.
     ensures soonest { (stacks : ListOf StackOf) (points : ListOf PointOf) → AreFollowed stacks points tracks.old.items →

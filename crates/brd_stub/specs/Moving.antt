@@ -164,7 +164,8 @@ pub data EndsBehind (points : List Point) (last : Whose) (d : DebuggerState) (e 
   none : IsLast d None → e ≡ stands_there last Reason.Begin (moved_to d 0) → EndsBehind points last d e
 
 -- What a move back does that has come to a stop, the watch of which was told or not.
-pub record StopsBehind (points : List Point) (last : Whose) (is_told : Bool) (d : DebuggerState) (e : Ended) : Type 0 where
+pub record StopsBehind (points : List Point) (last : Whose) (is_told : Bool) (d : DebuggerState) (e : Ended) :
+    Type 0 where
   pub look : Option Look
   pub sees : SeesAhead d look
   pub stands : passes is_told look ≡ false → e ≡ stand_behind points last is_told look d

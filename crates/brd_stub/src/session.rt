@@ -395,7 +395,9 @@ impl Session {
     /// Answers whether there is a thread, which is chosen then.
     fn ask(&mut self, alloc: Global, thread: ThreadId) -> Result<Answer, NoMemory>
         ensures becomes { IfOk result (λ _. self.new
-            ≡ record self.old { selection = asked_by self.old.kind (shown self.old.debugger) thread self.old.selection }) }
+            ≡ record self.old {
+              selection = asked_by self.old.kind (shown self.old.debugger) thread self.old.selection;
+            }) }
         ensures says { IfOk result (λ answer.
             answer.reply.items ≡ done_text (is_some (named_in self.old thread))) }
         ensures short { IfOk result (λ answer. length answer.reply.items ≤ packet_size) }

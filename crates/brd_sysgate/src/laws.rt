@@ -29,7 +29,8 @@ pub fn each_number_once()
 /// Calls above 62 are there in the profile alone: without it each is E_RSFN, whoever makes it, and with it every other
 /// number is the call that it is without.
 pub fn the_profile_alone_has_more_calls()
-    ensures refused { (s : State) (caller : CallerOf) → caller.standard ≡ false → 62 < read s 2 → read_of s caller ≡ Err Rsfn }
+    ensures refused { (s : State) (caller : CallerOf) → caller.standard ≡ false → 62 < read s 2 →
+        read_of s caller ≡ Err Rsfn }
     ensures others { (number : ℕ) → number ≤ 62 → row_in table number ≡ row_in plain_table number }
     ensures numbers { IsTrue (are_below 63 plain_table) }
     ensures more { IsTrue (is_above 63 profile_table) }

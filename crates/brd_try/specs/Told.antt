@@ -81,7 +81,8 @@ IsWhy tasks b why =
 -- the line that says so, and after how many steps
 abbrev pub stop_line : List ℕ → ℕ → List ℕ
 stop_line why steps =
-    codes "stopped: " ++ why ++ codes " after " ++ decimal steps ++ (if steps == 1 then codes " step\n" else codes " steps\n")
+    codes "stopped: " ++ why ++ codes " after " ++ decimal steps
+    ++ (if steps == 1 then codes " step\n" else codes " steps\n")
 
 -- What is told of a board with n tasks after so many steps. Of what stands then in words nothing is said here.
 pub record IsTold (tasks steps : ℕ) (b : BoardState) (text : List ℕ) : Type 0 where
