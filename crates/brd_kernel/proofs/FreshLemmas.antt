@@ -100,7 +100,7 @@ nobody-lifts own =
     (record {
       founded = begins own (replicate 256 None);
       high = λ id to waits. let wrong : ◌≡◌ {A = Option ℕ} None (Some to) = sym (same-at 256 id None) ∙ waits in
-          let no : ⊥ = cc in absurd no;
+          let never : ⊥ = cc in absurd never;
     })
 
 fresh-priorities : (k : KernelState) → Fresh k → priorities_of k ≡ bases_below k.tasks 256
