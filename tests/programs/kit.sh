@@ -590,7 +590,7 @@ mistake "a name that isn't one of an ID" 2 \
 mistake "a function that isn't there" 2 "(.text.start+0x8): undefined reference to \`greeet'" \
     firmware.cfg 's/greet/greeet/' all
 mistake "a wrong line of the configuration" 2 \
-    "firmware.cfg:5: this kernel hasn't CRE_MTX (no mutexes: use CRE_SEM with a maximum of 1)" \
+    "firmware.cfg:5: this kernel hasn't CRE_MTX (mutexes are there with PROFILE(STANDARD); before BOARD: else use CRE_SEM with a maximum of 1)" \
     firmware.cfg 's/CRE_SEM/CRE_MTX/' all
 mkdir "$new/more"
 echo 'extern int twice(int n); int twice(int n) { return 2 * n; }' > "$new/more/print.c"

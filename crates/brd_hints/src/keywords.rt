@@ -61,6 +61,12 @@ pub(crate) fn told_of(keyword: Keyword) -> Told {
             attributes: b"none but TA_NULL",
             again: b"spin lock ? is there already, on line &",
         },
+        Keyword::Mutex => Told {
+            marks: b"(n,{a,n});",
+            form: b"CRE_MTX(id, {attributes, ceiling});",
+            attributes: b"TA_TFIFO, TA_TPRI, TA_INHERIT and TA_CEILING",
+            again: b"mutex ? is there already, on line &",
+        },
         Keyword::Handler => Told {
             marks: b"(n,{a,v});",
             form: b"DEF_INH(line, {attributes, handler});",
@@ -77,7 +83,7 @@ pub(crate) const WORDS: &[u8] =
 /// What is said of statements that uITRON and TOPPERS have and this kernel hasn't: a line for those of which the same
 /// is said.
 pub(crate) const OTHERS: &[u8] = b"\
-CRE_MTX: no mutexes: use CRE_SEM with a maximum of 1
+CRE_MTX: mutexes are there with PROFILE(STANDARD); before BOARD: else use CRE_SEM with a maximum of 1
 CRE_CYC CRE_ALM DEF_OVR: no cyclic or alarm handlers: a task can wait by dly_tsk
 CRE_MBX CRE_MBF CRE_POR CRE_PDQ: of queues there are data queues: use CRE_DTQ
 CRE_MPF CRE_MPL: no memory pools: reserve memory in the program

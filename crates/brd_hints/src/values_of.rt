@@ -139,6 +139,12 @@ fn limit_of(fault: ConfigFault, keyword: Keyword, read: &Valued) -> Option<(usiz
                 b"~ has no attribute with the bits of ?: there are ^".as_slice(),
             )
         }
+        (ConfigFault::BadPriority { .. }, Keyword::Mutex) => {
+            (
+                2,
+                b"the ceiling of a mutex is 1 (highest) to 16, or without TA_CEILING 0, found ?".as_slice(),
+            )
+        }
         (ConfigFault::BadPriority { .. }, _) => {
             (
                 4,
