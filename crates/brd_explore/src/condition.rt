@@ -17,7 +17,7 @@ pub enum Term {
 }
 
 /// How two sums are compared.
-#[derive(Clone, Copy)]
+#[derive(Clone, Copy, Debug, PartialEq, Eq)]
 pub enum Comparison {
     /// The first is less.
     Less,
