@@ -286,11 +286,11 @@ explores "$image" $examples/lost_update.cfg --word count=0..2,0x80000000=1..2 --
 got=$?
 verdict "explore: what fails at once" "$([ $got = 5 ] || echo "status $got")$([ "$(events "$work/found")" = 0 ] || echo "; $(events "$work/found") events")"
 assembled readers.s
-explores "$image" $examples/readers.cfg --never 'x == y + 1 , 1+writer +writer+ readers >= 0x4' --preemptions 2 --shortest
+explores "$image" $examples/readers.cfg --never 'x == y + 1 , 1+writer +writer+ readers >= 0x4' --events 50 --preemptions 2 --shortest
 wrong=$(is_found $?)
 grep -qE '^fails after .* events: x == y \+ 1, as 1 == 0 \+ 1$' "$work/out" || wrong="$wrong; it says $(head -n 1 "$work/out")"
 verdict "explore: a condition that holds" "$wrong"
-explores "$image" $examples/readers.cfg --never 'writer + writer + readers > 2' --preemptions 2 --shortest
+explores "$image" $examples/readers.cfg --never 'writer + writer + readers > 2' --events 50 --preemptions 2 --shortest
 wrong=$(is_found $?)
 grep -qE '^fails after 13 events: writer \+ writer \+ readers > 2, as 1 \+ 1 \+ 1 > 2$' "$work/out" ||
     wrong="$wrong; it says $(head -n 1 "$work/out")"

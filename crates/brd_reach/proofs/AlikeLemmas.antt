@@ -258,7 +258,7 @@ holds-alike : (by : Sharing) (b c : BoardState) (condition : Condition) → Alik
     holds c condition ≡ holds b condition
 unfolding holds
 holds-alike by b c condition it shared = λ i.
-    is_so condition.order (sum-alike by b c condition.left it shared.0 i) (sum-alike by b c condition.right it shared.1 i)
+    is_so condition.order (sum-alike by b c condition.left it shared.left i) (sum-alike by b c condition.right it shared.right i)
 
 now-alike : (by : Sharing) (b c : BoardState) (f : Failure) → Alike by b c → IsGuarded by f → fails_by_now c f ≡ fails_by_now b f
 unfolding fails_by_now

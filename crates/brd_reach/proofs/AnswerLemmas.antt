@@ -51,7 +51,7 @@ guarded-stays old new (failure.Console text) stays it = tt
 guarded-stays old new (failure.Word address value) stays it = word-stays old new address stays it
 guarded-stays old new (failure.Outside address least most) stays it = word-stays old new address stays it
 guarded-stays old new (failure.Holds condition) stays it =
-    (terms-stay old new condition.left stays it.0, terms-stay old new condition.right stays it.1)
+    record { left = terms-stay old new condition.left stays it.left; right = terms-stay old new condition.right stays it.right }
 guarded-stays old new failure.On stays it = tt
 guarded-stays old new failure.Ended stays it = tt
 guarded-stays old new (failure.Unlisted texts) stays it = tt
