@@ -286,9 +286,12 @@ with_equals one [] = None
 with_equals one (b ∷ bs) = if b == 61 then Some (one, bs) else None
 
 -- a comparison, or the other one where an equals sign follows; and what is behind it
+abbrev pub either_by : Comparison → List ℕ → Option (Comparison × List ℕ) → Comparison × List ℕ
+either_by one text None = (one, text)
+either_by one text (Some compared) = compared
+
 abbrev pub either : Comparison → Comparison → List ℕ → Comparison × List ℕ
-either one other [] = (one, [])
-either one other (b ∷ bs) = if b == 61 then (other, bs) else (one, b ∷ bs)
+either one other text = either_by one text (with_equals other text)
 
 -- the comparison that a byte begins, and what is behind it
 abbrev pub compared_by : ℕ → List ℕ → Option (Comparison × List ℕ)

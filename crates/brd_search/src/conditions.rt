@@ -1,6 +1,6 @@
 //! Conditions that are never to hold, as an option says them.
 
-ghost use Rattle.std.specs.Prelude.{◌≡◌, ◌∷◌, ◌<◌, ◌≤◌, length, option_map, IfErr, IfOk, IfSome, OnOk};
+ghost use Rattle.std.specs.Prelude.{◌≡◌, ◌∷◌, ◌<◌, ◌≤◌, length, option_map, IfErr, IfOk, IfSome, Ok, OnOk};
 ghost use Rattle.std.specs.List.{position_or_len};
 ghost use Rattle.brd_search.specs.Plans as plans;
 ghost use Rattle.brd_search.specs.Plans.{Adds, IsOfCondition, IsOfConditions, IsOfSum, IsOfTerm, nevers_of};
