@@ -90,6 +90,7 @@ words_config =
       flags = [];
       queues = [];
       spin_locks = [];
+      mutexes = [];
       handlers = [];
     }
 
