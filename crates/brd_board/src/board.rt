@@ -493,6 +493,7 @@ fn words_config(alloc: Global) -> Result<Config, NoMemory>
         flags: List::new(alloc),
         queues: List::new(alloc),
         spin_locks: List::new(alloc),
+        mutexes: List::new(alloc),
         handlers: List::new(alloc),
     })
 }
