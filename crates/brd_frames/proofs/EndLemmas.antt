@@ -28,7 +28,7 @@ use Rattle.brd_objects.specs.Semaphores.{returned, first_waiter, has_one}
 use Rattle.brd_objects.specs.Flags.{joined, pattern_for, all_released, with_all_released}
 use Rattle.brd_objects.specs.DataQueues.{DataQueueState, outcome, forced, forced_outcome, received, receipt}
 use Rattle.brd_objects.specs.declared.mutex.Mutex.{Mutex}
-use Rattle.brd_objects.specs.Mutexes.{given, owned, next_owner_in}
+use Rattle.brd_objects.specs.Mutexes.{given, next_owner_in}
 use Rattle.brd_kernel.specs.declared.processor.Processor.{Processor}
 use Rattle.brd_kernel.specs.declared.processor.Spin.{Spin}
 use Rattle.brd_kernel.specs.declared.processor.Executor.{Executor}

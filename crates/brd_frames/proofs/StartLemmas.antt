@@ -186,9 +186,9 @@ given-below-but k id at s zero = record { context = s; is = refl }
 given-below-but k id at s (suc n) =
     let before : KernelState = given_below k id n in
     let first : But at (given_below (k-with (other at s) (λ xs. xs) k) id n) before = given-below-but k id at s n in
-    let then : But at (given_by_in (k-with (other at first.context) (λ xs. xs) before) id n) (given_by_in before id n) =
+    let more : But at (given_by_in (k-with (other at first.context) (λ xs. xs) before) id n) (given_by_in before id n) =
     given-if-but before at n first.context (has_mutex_in id (object_at before.mutexes n)) in
-    record { context = then.context; is = ap (λ now. given_by_in now id n) first.is ∙ then.is }
+    record { context = more.context; is = ap (λ now. given_by_in now id n) first.is ∙ more.is }
 
 all-given-but : (k : KernelState) (id at : ℕ) (s : State) (standard : Bool) →
     But at (if standard then given_below (k-with (other at s) (λ xs. xs) k) id 256 else k-with (other at s) (λ xs. xs) k)
