@@ -126,6 +126,7 @@ record Stays (k new : KernelState) : Type 0 where
   semaphores : new.semaphores ≡ k.semaphores
   flags : new.flags ≡ k.flags
   queues : new.queues ≡ k.queues
+  mutexes : new.mutexes ≡ k.mutexes
   spin_locks : new.spin_locks ≡ k.spin_locks
   lines : new.lines ≡ k.lines
   time : new.time ≡ k.time
@@ -141,6 +142,7 @@ stays k cpu executor.Handler s = record {
   semaphores = refl;
   flags = refl;
   queues = refl;
+  mutexes = refl;
   spin_locks = refl;
   lines = refl;
   time = refl;
@@ -155,6 +157,7 @@ stays k cpu (executor.Task id) s = record {
   semaphores = refl;
   flags = refl;
   queues = refl;
+  mutexes = refl;
   spin_locks = refl;
   lines = refl;
   time = refl;
@@ -190,6 +193,7 @@ own-instruction b cpu who left was executes =
       semaphores = rest.semaphores;
       flags = rest.flags;
       queues = rest.queues;
+      mutexes = rest.mutexes;
       spin_locks = rest.spin_locks;
       lines = rest.lines;
       time = rest.time;

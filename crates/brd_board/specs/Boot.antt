@@ -43,8 +43,8 @@ loaded order size segments = if are_inside size segments then Ok (memory_of orde
 -- started, and each processor runs its first ready task
 abbrev pub booted_kernel : List TaskSetup → List LineSetup → Configuration → KernelState
 booted_kernel setups lines config =
-    let made =
-    made_kernel config.standard config.processors setups lines config.semaphores config.flags config.queues config.spin_locks config.mutexes in
+    let made = made_kernel config.standard config.processors setups lines config.semaphores config.flags config.queues
+    config.spin_locks config.mutexes in
     dispatched (with_tasks made (all_started made.tasks config.tasks))
 
 -- the board as boot leaves it: without links and faults

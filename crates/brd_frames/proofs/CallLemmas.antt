@@ -19,7 +19,7 @@ use Rattle.brd_kernel.specs.declared.call.Reply.TheVariants.{Answer, Silent, Aga
 use Rattle.brd_kernel.specs.Answer.{code_of}
 use Rattle.brd_kernel.specs.Kernel.{KernelState, processor_at, running_in, executor_by, executor_in, executor_on, context_of, with_context_of, context_on}
 use Rattle.brd_kernel.specs.Row.{Row, Served, refused, served_object, served, or_refused}
-use Rattle.brd_kernel.specs.Services.{is_held_elsewhere, is_no_processor, named, act_tsk, mact_tsk, ter_tsk, caller_on, serve_by, comes_again}
+use Rattle.brd_kernel.specs.Services.{is_held_elsewhere, is_no_processor, named, act_tsk, mact_tsk, ter_tsk, caller_on, serve_by, with_priorities, comes_again}
 use Rattle.brd_sysgate.specs.declared.gate.Agent.{Agent}
 use Rattle.brd_sysgate.specs.declared.gate.Agent.TheVariants as agent
 use Rattle.brd_sysgate.specs.declared.gate.Caller.{Caller}
@@ -29,7 +29,7 @@ use Rattle.brd_sysgate.specs.Gate.{Service, table_of, may_call, arguments_of, al
 use Rattle.brd_frames.specs.Apart.{starts}
 use Rattle.brd_frames.proofs.TableLemmas.{Contexts, At, Unsteady, Restarted}
 use Rattle.brd_frames.proofs.KernelLemmas.{k-with}
-use Rattle.brd_frames.proofs.ServiceLemmas.{AtExecutor, r-with, StaysBy, Stays, Alike, Frees, serve-alike}
+use Rattle.brd_frames.proofs.ServiceLemmas.{AtExecutor, r-with, StaysBy, Stays, Alike, Frees, serve-alike, priorities-alike}
 
 -- The context of who executes.
 
@@ -348,7 +348,8 @@ served-with f g k cpu who s (Ok c) free on there asks =
       returns = returns-at f g k cpu who s c on at asks;
       starts = λ id task. starts-there f k cpu who next id c task (free.starts s c id task there asks);
     } in
-    replied-alike f g now cpu (serve_by now cpu (caller_on now cpu) c) _ (serve-alike f g now cpu (caller_on now cpu) c frees) here
+    replied-alike f g now cpu (with_priorities (serve_by now cpu (caller_on now cpu) c)) _
+    (priorities-alike f g now cpu (serve_by now cpu (caller_on now cpu) c) _ (serve-alike f g now cpu (caller_on now cpu) c frees)) here
 
 called-if : (f g : Contexts) (k one two : KernelState) (again other : Bool) → other ≡ again → two ≡ k-with f g one →
     (if other then k-with f g k else two) ≡ k-with f g (if again then k else one)

@@ -27,6 +27,8 @@ use Rattle.brd_objects.specs.Table.{object_at, object_changed}
 use Rattle.brd_objects.specs.Semaphores.{returned, first_waiter, has_one}
 use Rattle.brd_objects.specs.Flags.{joined, pattern_for, all_released, with_all_released}
 use Rattle.brd_objects.specs.DataQueues.{DataQueueState, outcome, forced, forced_outcome, received, receipt}
+use Rattle.brd_objects.specs.declared.mutex.Mutex.{Mutex}
+use Rattle.brd_objects.specs.Mutexes.{given, next_owner_in}
 use Rattle.brd_kernel.specs.declared.processor.Processor.{Processor}
 use Rattle.brd_kernel.specs.declared.processor.Spin.{Spin}
 use Rattle.brd_kernel.specs.declared.processor.Executor.{Executor}
@@ -35,14 +37,18 @@ use Rattle.brd_kernel.specs.declared.call.Call.{Call}
 use Rattle.brd_kernel.specs.declared.call.Call.TheVariants as call
 use Rattle.brd_kernel.specs.declared.call.Ercd.{Ercd}
 use Rattle.brd_kernel.specs.declared.call.Ercd.TheVariants.{Rlwai}
+use Rattle.brd_kernel.specs.declared.call.Reply.{Reply}
+use Rattle.brd_kernel.specs.declared.call.Reply.TheVariants.{Answer, Silent, Again}
 use Rattle.brd_kernel.specs.Answer.{e_ok, code_of}
 use Rattle.brd_kernel.specs.Kernel.{KernelState, processor_at, with_tasks, with_processor, executor_by, executor_in, executor_on, context_of, with_context_of, context_on, deliverable, handles, line_at}
-use Rattle.brd_kernel.specs.Waits.{can_wait, with_wait, due_by, due_after, released_in, reason_of, unlisted, broken_off, ended_in, answer_by, timed_out, all_timed_out, faulted_task, faulted_in}
+use Rattle.brd_kernel.specs.Waits.{can_wait, with_wait, due_by, due_after, released_in, reason_of, unlisted, broken_off, answer_by, timed_out, all_timed_out, faulted_task, faulted_in, with_released, given_in, all_given_in, quits_in, prioritized}
 use Rattle.brd_kernel.specs.Row.{Served, served}
-use Rattle.brd_kernel.specs.Services.{named, act_tsk, can_act, ext_tsk, ter_tsk, chg_pri, get_pri, mact_tsk, mig_tsk, get_pid, rot_rdq, irot_rdq, get_tid, mark_dsp, mark_cpu, tslp_tsk, wup_tsk, can_wup, rel_wai, sus_tsk, rsm_tsk, dly_tsk, sig_sem, twai_sem, set_flg, clr_flg, twai_flg, tsnd_dtq, fsnd_dtq, trcv_dtq, put_chr, ext_ker, ret_int, loc_spn, try_spn, unl_spn, get_tim, set_tim, sns, mget_tid, mrot_rdq, ref_tsk, ref_sem, ref_flg, ref_dtq}
-use Rattle.brd_kernel.specs.Services.{is_asleep, want_of, or_waits, priority_or_initial, with_released, with_all_released_in, with_satisfied_of, handed_over, with_priority_in, flag_got, queue_sent, queue_received, unmarked_on, is_taken, lock_taken_by, lock_given_by, serve_by, caller_on}
-use Rattle.brd_kernel.proofs.ServedLemmas.{Wanted, Leaves, Passes, leaves-row, leaves-if, leaves-or_refused}
-use Rattle.brd_kernel.proofs.WalkLemmas.{in_semaphore, in_flag, in_senders, in_receivers}
+use Rattle.brd_kernel.specs.Services.{named, act_tsk, can_act, ext_tsk, ter_tsk, chg_pri, get_pri, mact_tsk, mig_tsk, get_pid, rot_rdq, irot_rdq, get_tid, mark_dsp, mark_cpu, tslp_tsk, wup_tsk, can_wup, rel_wai, sus_tsk, rsm_tsk, dly_tsk, sig_sem, twai_sem, set_flg, clr_flg, twai_flg, tsnd_dtq, fsnd_dtq, trcv_dtq, put_chr, ext_ker, ret_int, loc_spn, try_spn, unl_spn, get_tim, set_tim, sns, mget_tid, mrot_rdq, ref_tsk, ref_sem, ref_flg, ref_dtq, tloc_mtx, unl_mtx, ref_mtx}
+use Rattle.brd_kernel.specs.Services.{is_asleep, want_of, or_waits, priority_or_initial, with_all_released_in, with_satisfied_of, handed_over, with_priority_in, flag_got, queue_sent, queue_received, unmarked_on, is_taken, lock_taken_by, lock_given_by, serve_by, prioritized_after, with_priorities, caller_on}
+use Rattle.brd_kernel.proofs.ServedLemmas.{Wanted, LeavesBy, Leaves, Passes, leaves-row, leaves-if, leaves-or_refused}
+use Rattle.brd_kernel.proofs.PricedLemmas.{priced, priced_in}
+use Rattle.brd_kernel.proofs.SettledLemmas.{Settles, all-given, all-prioritized}
+use Rattle.brd_kernel.proofs.WalkLemmas.{in_semaphore, in_flag, in_senders, in_receivers, in_mutex}
 use Rattle.brd_kernel.proofs.WaitLemmas.{unlisted-only, reordered-only}
 use Rattle.brd_sysgate.specs.Gate.{read_of, written, caller_of, served_call, changed_in, with_changed_context, replied, is_again, called_in, called}
 use Rattle.brd_board.specs.Executing.{executed_by, executed_in}
@@ -227,6 +233,30 @@ prioritized-lives id at priority k why was =
     let new : KernelState = with_tasks k (changed (with_priority priority) k.tasks at) in
     subst (Lives id) (sym (reordered-only new at priority why).tasks) (changed-lives id at (with_priority priority) k.tasks was (λ task. refl))
 
+-- Mutexes and priorities.
+
+given-lives-in : (id : ℕ) (k : KernelState) (at : ℕ) → LivesIn id k → LivesIn id (given_in k at)
+given-lives-in id k at was =
+    released-if-lives id (record k { mutexes = object_changed given k.mutexes at }) (next_owner_in (object_at k.mutexes at)) was
+
+priced-lives : (id : ℕ) (k : KernelState) (base : Task → ℕ) (at priority : ℕ) (why : Option WaitReason) → LivesIn id k →
+    LivesIn id (priced_in k base at priority why)
+priced-lives id k base at priority why was =
+    let new : KernelState = with_tasks k (changed (priced base priority) k.tasks at) in
+    subst (Lives id) (sym (reordered-only new at priority why).tasks) (changed-lives id at (priced base priority) k.tasks was (λ task. refl))
+
+lives-settle : (id : ℕ) → Settles (LivesIn id)
+lives-settle id = record {
+  gives = λ k at m there was. given-lives-in id k at was;
+  prices = λ k base at priority (task : Task) there was. priced-lives id k base at priority (waiting_of task.status) was;
+}
+
+quits-lives : (id at : ℕ) (k : KernelState) → LivesIn id k → (at ≡ id → ⊥) → LivesIn id (quits_in k at)
+quits-lives id at k was other = ended-lives id at (all_given_in k at).tasks (all-given (LivesIn id) k at (lives-settle id) was) other
+
+all-prioritized-lives : (id : ℕ) (k : KernelState) → LivesIn id k → LivesIn id (prioritized k)
+all-prioritized-lives id k was = all-prioritized (LivesIn id) k (lives-settle id) was
+
 unmarked-lives : (id : ℕ) (k : KernelState) (cpu : ℕ) (found : Option Processor) → LivesIn id k → LivesIn id (unmarked_on k cpu found)
 unmarked-lives id k cpu None was = was
 unmarked-lives id k cpu (Some p) was = was
@@ -292,10 +322,10 @@ serve-lives id k cpu caller (call.CanAct t) spares was =
     leaves-row (Living id) (can_act k (named caller t)) (λ task passes. noted-lives id (named caller t) without_activation k.tasks was (λ it. refl))
 serve-lives id k cpu caller call.ExtTsk spares was =
     leaves-row (Living id) (ext_tsk k cpu caller) (λ task passes.
-    unmarked-lives id (ended_in k caller) cpu (processor_at k cpu) (ended-lives id caller k.tasks was (spares.exits refl)))
+    unmarked-lives id (quits_in k caller) cpu (processor_at k cpu) (quits-lives id caller k was (spares.exits refl)))
 serve-lives id k cpu caller (call.TerTsk t) spares was =
     leaves-row (Living id) (ter_tsk k cpu caller t) (λ task passes.
-    ended-lives id t k.tasks was (λ same.
+    quits-lives id t k was (λ same.
     spares.ends (ap call.TerTsk same) (subst (λ x. is_ok (served (ter_tsk k cpu caller x)) ≡ true) same (passes-ok k cpu caller t task passes))))
 serve-lives id k cpu caller (call.ChgPri t priority) spares was =
     leaves-row (Living id) (chg_pri k (named caller t) priority) (λ (task : Task) passes.
@@ -382,6 +412,24 @@ serve-lives id k cpu caller (call.RefTsk t word) spares was = leaves-row (Living
 serve-lives id k cpu caller (call.RefSem s word) spares was = leaves-row (Living id) (ref_sem k s word) (λ (it : Semaphore) passes. was)
 serve-lives id k cpu caller (call.RefFlg flag word) spares was = leaves-row (Living id) (ref_flg k flag word) (λ (it : Flag) passes. was)
 serve-lives id k cpu caller (call.RefDtq q word) spares was = leaves-row (Living id) (ref_dtq k q word) (λ (it : DataQueueState) passes. was)
+serve-lives id k cpu caller (call.TlocMtx m timeout) spares was =
+    leaves-row (Living id) (tloc_mtx k caller m timeout) (λ (it : Mutex) passes.
+    leaves-if (Living id) (is_some it.owner) _ _
+    (λ held. or-waits-live id k caller (reason.On kind.Mutex m) timeout (in_mutex k caller m) was) (λ none. was))
+serve-lives id k cpu caller (call.UnlMtx m) spares was =
+    leaves-row (Living id) (unl_mtx k caller m) (λ (it : Mutex) passes. given-lives-in id k m was)
+serve-lives id k cpu caller (call.RefMtx m word) spares was = leaves-row (Living id) (ref_mtx k m word) (λ (it : Mutex) passes. was)
+
+-- Then tasks are given the priorities that they are to have.
+
+after-lives : (id : ℕ) (k : KernelState) (reply : Reply) → LeavesBy (Living id) k reply → LeavesBy (Living id) (prioritized_after k reply) reply
+after-lives id k (Answer code second) leaves = all-prioritized-lives id k leaves
+after-lives id k Silent leaves = all-prioritized-lives id k leaves
+after-lives id k Again leaves = leaves
+
+priorities-live : (id : ℕ) (says : Result Served Ercd) → Leaves (Living id) says → Leaves (Living id) (with_priorities says)
+priorities-live id (Ok done) leaves = after-lives id done.kernel done.reply leaves
+priorities-live id (Err code) leaves = tt
 
 -- A SYSCALL.
 
@@ -410,8 +458,9 @@ served-lives id k cpu who s (Ok c) spares on there asks was next =
       exits = λ is same. spares.other (exits-task k cpu who next s c id on asks is same);
       ends = λ is serves. spares.ends s there (asks ∙ ap (λ x. Ok x) is) (terminates-put k cpu who next id ∙ serves);
     } in
-    leaves-or_refused (Living id) now (serve_by now cpu (caller_on now cpu) c) (put-context-lives id k cpu who next was)
-    (serve-lives id now cpu (caller_on now cpu) c here (put-context-lives id k cpu who next was))
+    leaves-or_refused (Living id) now (with_priorities (serve_by now cpu (caller_on now cpu) c)) (put-context-lives id k cpu who next was)
+    (priorities-live id (serve_by now cpu (caller_on now cpu) c)
+    (serve-lives id now cpu (caller_on now cpu) c here (put-context-lives id k cpu who next was)))
 
 called-in-lives : (id : ℕ) (k : KernelState) (cpu : ℕ) (who : Option Executor) → CallSpares k cpu id → executor_on k cpu ≡ who → LivesIn id k →
     LivesIn id (called_in k cpu (caller_of k cpu) (option_map (context_of k cpu) who))
@@ -435,7 +484,7 @@ faulted-task-lives : (id : ℕ) (k : KernelState) (cpu : ℕ) (p : Processor) (r
     LivesIn id (faulted_task k cpu p running)
 faulted-task-lives id k cpu p None other was = was
 faulted-task-lives id k cpu p (Some at) other was =
-    ended-lives id at (noted without_activation k.tasks at) (noted-lives id at without_activation k.tasks was (λ task. refl))
+    quits-lives id at (with_tasks k (noted without_activation k.tasks at)) (noted-lives id at without_activation k.tasks was (λ task. refl))
     (λ same. other (ap Some same))
 
 faulted-by-lives : (id : ℕ) (k : KernelState) (cpu : ℕ) (p : Processor) (handling : Option ℕ) → p.handling ≡ handling →
@@ -458,7 +507,9 @@ done-lives : (id : ℕ) (b : BoardState) (cpu at : ℕ) (outcome : Outcome) → 
     LivesIn id b.kernel → LivesIn id (instruction_done b cpu at outcome).board.kernel
 done-lives id b cpu at Done spares other on was = was
 done-lives id b cpu at Syscall spares other on was = called-lives id b.kernel cpu (spares refl) was
-done-lives id b cpu at (Exception code epc bd) spares other on was = faulted-lives id b.kernel cpu (processor_at b.kernel cpu) on other was
+done-lives id b cpu at (Exception code epc bd) spares other on was =
+    all-prioritized-lives id (faulted_in b.kernel cpu (processor_at b.kernel cpu))
+    (faulted-lives id b.kernel cpu (processor_at b.kernel cpu) on other was)
 
 put-processor : (k : KernelState) (cpu other : ℕ) (who : Executor) (s : State) →
     processor_at (with_context_of k cpu who s) other ≡ processor_at k other
@@ -554,8 +605,10 @@ on-lives : (id : ℕ) (b : BoardState) (event : Event) → b.kernel.off ≡ fals
 on-lives id b (Step cpu) off other never was =
     stepped-lives id b cpu (processor_at b.kernel cpu) (step-spares b cpu id off other never) was
 on-lives id b Tick off other never was =
+    let now : KernelState = record b.kernel { time = advanced b.kernel.time } in
+    let ids : List ℕ = due_from (advanced b.kernel.time) 0 in
     either-lives id (nat_lt b.kernel.time.count last_count) _ _
-    (all-timed-lives id (record b.kernel { time = advanced b.kernel.time }) (due_from (advanced b.kernel.time) 0) was) was
+    (all-prioritized-lives id (all_timed_out now ids) (all-timed-lives id now ids was)) was
 on-lives id b (Raise line) off other never was = either-lives id (is_some (line_at b.kernel line).handler) _ _ was was
 
 off-lives : (id : ℕ) (b : BoardState) (event : Event) (off : Bool) → b.kernel.off ≡ off → (Executes b event (agents.Task id) → ⊥) →

@@ -34,7 +34,7 @@ use Rattle.brd_frames.specs.Apart.{is_handling, is_steady, Calls, starts, Starts
 use Rattle.brd_frames.proofs.TableLemmas.{Contexts, At, Unsteady}
 use Rattle.brd_frames.proofs.KernelLemmas.{k-with, ticked-with, fault-with, dispatched-with}
 use Rattle.brd_frames.proofs.ServiceLemmas.{AtExecutor}
-use Rattle.brd_frames.proofs.CallLemmas.{CallFrees, context-with, put-with, put-same, called-with}
+use Rattle.brd_frames.proofs.CallLemmas.{CallFrees, context-with, put-with, put-same, put-unsteady, called-with}
 use Rattle.brd_frames.proofs.StepLemmas.{left_by, step-calls, syscall-keeps, deliverable-accepts}
 
 -- the board, and what has happened, with other contexts
@@ -53,15 +53,16 @@ dispatched-board-with f g b told =
 
 -- Instructions.
 
-done-with : (f g : Contexts) (b : BoardState) (cpu address : ℕ) (outcome : Outcome) → (outcome ≡ Syscall → CallFrees f g b.kernel cpu) →
+done-with : (f g : Contexts) (b : BoardState) (cpu address : ℕ) (outcome : Outcome) → Unsteady f b.kernel.tasks →
+    (outcome ≡ Syscall → CallFrees f g b.kernel cpu) →
     instruction_done (b-with f g b) cpu address outcome ≡ h-with f g (instruction_done b cpu address outcome)
-done-with f g b cpu address Done free = refl
-done-with f g b cpu address Syscall free =
+done-with f g b cpu address Done steady free = refl
+done-with f g b cpu address Syscall steady free =
     ap (λ k. then_dispatched (record b { kernel = k; links = without b.links cpu }) (report.Called address)) (called-with f g b.kernel cpu (free refl))
     ∙ dispatched-board-with f g (with_call b cpu) (report.Called address)
-done-with f g b cpu address (Exception code epc bd) free =
+done-with f g b cpu address (Exception code epc bd) steady free =
     ap (λ k. then_dispatched (record b { kernel = k; faults = slice_set b.faults cpu (Some (record { code = code; epc = epc; bd = bd })) })
-    (report.Faulted address)) (fault-with f g b.kernel cpu)
+    (report.Faulted address)) (fault-with f g b.kernel cpu steady)
     ∙ dispatched-board-with f g (with_fault b cpu (record { code = code; epc = epc; bd = bd })) (report.Faulted address)
 
 -- what has to be left alone over a step: tasks that wait, the handler of a processor that accepts an interrupt, who
@@ -105,6 +106,7 @@ executed-with f g b cpu who free on none =
     ∙ ap (λ now. instruction_done (record b { kernel = now; memory = left.memory; links = left.links }) cpu s.pc left.outcome)
     (put-with f g k cpu who left.state at)
     ∙ done-with f g (with_executed b (executed_by k cpu who s.pc left)) cpu s.pc left.outcome
+    (put-unsteady f k cpu who left.state free.unsteady)
     (λ calls. subst (λ now. CallFrees f g now cpu)
     (sym (ap (with_context_of k cpu who) (syscall-keeps b cpu who calls) ∙ put-same k cpu who))
     (call-frees f g b cpu who free on none calls))
@@ -189,7 +191,7 @@ happens-with f g b event free = off-with f g b event b.kernel.off free
 
 -- The context of one agent.
 
-at-other : (at id : ℕ) (s : State) → (id ≡ at → ⊥) → At (λ xs. slice_set xs at s) id
+pub at-other : (at id : ℕ) (s : State) → (id ≡ at → ⊥) → At (λ xs. slice_set xs at s) id
 at-other at id s apart = record {
   reads = λ xs. get_or-set_other xs at id s no_context apart;
   writes = λ xs other. set_comm xs id at other s apart;

@@ -13,7 +13,7 @@ use Rattle.brd_tasks.specs.declared.status.WaitKind.TheVariants as kind
 use Rattle.brd_tasks.specs.declared.task.Task.{Task}
 use Rattle.brd_tasks.specs.declared.task.Request.{Request}
 use Rattle.brd_tasks.specs.Status.{waiting_of, is_dormant, released, blocked, suspended, resumed}
-use Rattle.brd_tasks.specs.Tasks.{TaskTable, task_at, opening_of, processor_of, where_there, starts, activated, ended_by, ended, put_into, through, answered, context_at, released_to, released_with, changed, noted, with_priority, on_processor, with_wakeup, without_activation}
+use Rattle.brd_tasks.specs.Tasks.{TaskTable, task_at, opening_of, processor_of, where_there, starts, activated, ended_by, ended, put_into, through, answered, context_at, released_to, released_with, changed, noted, on_processor, with_wakeup, without_activation}
 use Rattle.brd_time.specs.Time.{Time, last_count, advanced, due_from}
 use Rattle.brd_objects.specs.declared.flag.Flag.{Flag}
 use Rattle.brd_objects.specs.declared.semaphore.Semaphore.{Semaphore}
@@ -24,14 +24,18 @@ use Rattle.brd_objects.specs.Table.{object_at, object_changed}
 use Rattle.brd_objects.specs.Semaphores.{returned, first_waiter}
 use Rattle.brd_objects.specs.Flags.{joined, all_released, with_all_released}
 use Rattle.brd_objects.specs.DataQueues.{DataQueueState, sent, outcome, forced, forced_outcome, received}
+use Rattle.brd_objects.specs.declared.mutex.Mutex.{Mutex}
+use Rattle.brd_objects.specs.Mutexes.{given, next_owner_in}
 use Rattle.brd_kernel.specs.declared.processor.Processor.{Processor}
 use Rattle.brd_kernel.specs.declared.processor.Executor.{Executor}
 use Rattle.brd_kernel.specs.declared.processor.Executor.TheVariants as executor
 use Rattle.brd_kernel.specs.declared.call.Call.{Call}
 use Rattle.brd_kernel.specs.Answer.{e_ok}
 use Rattle.brd_kernel.specs.Kernel.{KernelState, processor_at, with_tasks, executor_on, context_of, with_context_of, deliverable, handles, entry_of, line_at}
-use Rattle.brd_kernel.specs.Waits.{can_wait, with_wait, released_in, reason_of, unlisted, broken_off, ended_in, answer_by, timed_out, all_timed_out, ticked_on, faulted_task, faulted_in, Change, changed_of, changed_for, leaving, moving}
-use Rattle.brd_kernel.specs.Services.{unmarked_on, with_released, with_all_released_in, with_satisfied_of, handed_over, caller_on}
+use Rattle.brd_kernel.specs.Waits.{can_wait, with_wait, released_in, reason_of, unlisted, broken_off, ended_in, answer_by, timed_out, all_timed_out, ticked_on, faulted_task, faulted_in, Change, changed_of, changed_for, leaving, moving, with_released, given_in, all_given_in, quits_in, prioritized}
+use Rattle.brd_kernel.specs.Services.{unmarked_on, with_all_released_in, with_satisfied_of, handed_over, caller_on}
+use Rattle.brd_kernel.proofs.PricedLemmas.{priced, priced_in}
+use Rattle.brd_kernel.proofs.SettledLemmas.{Settles, all-given, all-prioritized}
 use Rattle.brd_kernel.proofs.WalkLemmas.{Lacks, No-one, lacked, awaiting, Fact, Law, serve-leaves}
 use Rattle.brd_kernel.proofs.who_runs.RunningCallLemmas.{known_of}
 use Rattle.brd_sysgate.specs.Gate.{called}
@@ -140,12 +144,41 @@ if-rooms : (k one other : KernelState) (test : Bool) → Rooms one k → Rooms o
 if-rooms k one other true first second = first
 if-rooms k one other false first second = second
 
+-- Mutexes and priorities.
+
+released-if-rooms : (k : KernelState) (id : Option ℕ) → Rooms (with_released k id) k
+released-if-rooms k None = rooms-same k
+released-if-rooms k (Some id) = released-rooms k id e_ok None
+
+given-rooms : (k : KernelState) (at : ℕ) → Rooms (given_in k at) k
+given-rooms k at =
+    let it = released-if-rooms (record k { mutexes = object_changed given k.mutexes at }) (next_owner_in (object_at k.mutexes at)) in
+    record { tasks = it.tasks; handlers = it.handlers }
+
+priced-rooms : (k : KernelState) (base : Task → ℕ) (id priority : ℕ) (why : Option WaitReason) → Rooms (priced_in k base id priority why) k
+priced-rooms k base id priority why =
+    rooms-then (of-rooms (moving id priority) (with_tasks k (changed (priced base priority) k.tasks id)) why)
+    (in-tasks k _ (changed-room (priced base priority) k.tasks id))
+
+rooms-settle : (k : KernelState) → Settles (λ new. Rooms new k)
+rooms-settle k = record {
+  gives = λ now at m there was. rooms-then (given-rooms now at) was;
+  prices = λ now base id priority (task : Task) there was. rooms-then (priced-rooms now base id priority (waiting_of task.status)) was;
+}
+
+quits-rooms : (k : KernelState) (id : ℕ) → Rooms (quits_in k id) k
+quits-rooms k id =
+    rooms-then (ended-rooms (all_given_in k id) id) (all-given (λ new. Rooms new k) k id (rooms-settle k) (rooms-same k))
+
+prioritized-rooms : (k now : KernelState) → Rooms now k → Rooms (prioritized now) k
+prioritized-rooms k now was = all-prioritized (λ new. Rooms new k) now (rooms-settle k) was
+
 faulted-task-rooms : (k : KernelState) (cpu : ℕ) (p : Processor) (running : Option ℕ) → Rooms (faulted_task k cpu p running) k
 faulted-task-rooms k cpu p None = rooms-same k
 faulted-task-rooms k cpu p (Some id) =
     let quiet : KernelState = with_tasks k (noted without_activation k.tasks id) in
-    let over : Rooms (ended_in quiet id) k =
-    rooms-then (ended-rooms quiet id) (in-tasks k (noted without_activation k.tasks id) (noted-room without_activation k.tasks id)) in
+    let over : Rooms (quits_in quiet id) k =
+    rooms-then (quits-rooms quiet id) (in-tasks k (noted without_activation k.tasks id) (noted-room without_activation k.tasks id)) in
     record { tasks = over.tasks; handlers = over.handlers }
 
 faulted-rooms : (k : KernelState) (cpu : ℕ) (found : Option Processor) → Rooms (faulted_in k cpu found) k
@@ -158,10 +191,6 @@ wait-rooms : (k : KernelState) (id : ℕ) (why : WaitReason) (due : Option ℕ) 
 wait-rooms k id why due entered same =
     if-rooms k _ k (can_wait (task_at k.tasks id))
     (record { tasks = through-room (blocked why) k.tasks id; handlers = same.handlers }) (rooms-same k)
-
-released-if-rooms : (k : KernelState) (id : Option ℕ) → Rooms (with_released k id) k
-released-if-rooms k None = rooms-same k
-released-if-rooms k (Some id) = released-rooms k id e_ok None
 
 all-released-rooms : (k : KernelState) (ids : List ℕ) (second : ℕ) → Rooms (with_all_released_in k ids second) k
 all-released-rooms k [] second = rooms-same k
@@ -197,11 +226,9 @@ rooms-law Known k cpu caller = record {
   cancels = λ id. in-tasks k _ (noted-room without_activation k.tasks id);
   wakes = λ id task there awake. in-tasks k _ (noted-room (with_wakeup true) k.tasks id);
   unwakes = λ id. in-tasks k _ (noted-room (with_wakeup false) k.tasks id);
-  exits = λ known. rooms-then (unmarked-rooms (ended_in k caller) cpu (processor_at k cpu)) (ended-rooms k caller);
-  ends = λ id task there held other. ended-rooms k id;
-  prioritizes = λ id priority (task : Task) there.
-      rooms-then (of-rooms (moving id priority) (with_tasks k (changed (with_priority priority) k.tasks id)) (waiting_of task.status))
-      (in-tasks k _ (changed-room (with_priority priority) k.tasks id));
+  exits = λ known. rooms-then (unmarked-rooms (quits_in k caller) cpu (processor_at k cpu)) (quits-rooms k caller);
+  ends = λ id task there held other. quits-rooms k id;
+  prioritizes = λ base id priority (task : Task) there. priced-rooms k base id priority (waiting_of task.status);
   migrates = λ id to task there held absent may. in-tasks k _ (changed-room (on_processor to) k.tasks id);
   suspends = λ id task there held may. in-tasks k _ (through-room suspended k.tasks id);
   resumes = λ id. in-tasks k _ (through-room resumed k.tasks id);
@@ -226,6 +253,8 @@ rooms-law Known k cpu caller = record {
       via (handed-rooms (record k { queues = object_changed (forced datum) k.queues id }) datum (forced_outcome q)) refl refl;
   receives = λ id q (it : Received) there is.
       via (released-if-rooms (record k { queues = object_changed received k.queues id }) it.sender) refl refl;
+  locks = λ id m there. record { tasks = refl; handlers = refl };
+  gives = λ id m there. given-rooms k id;
   awaits = λ id due lacks may.
       wait-rooms k caller (reason.On (lacked lacks) id) due (awaiting k caller id lacks) (awaiting-rooms k caller id lacks);
   writes = λ word. record { tasks = refl; handlers = refl };
@@ -248,14 +277,15 @@ called-rooms k cpu =
       replies = λ now who s was. rooms-then (put-rooms now cpu who s) was;
       serves = λ now p (c : Call) same there may was.
           rooms-then
-          (serve-leaves (λ new. Rooms new now) now cpu (rooms-law (known_of p (caller_on now cpu)) now cpu (caller_on now cpu)) c may) was;
+          (serve-leaves (λ new. Rooms new now) now cpu (rooms-law (known_of p (caller_on now cpu)) now cpu (caller_on now cpu))
+          (prioritized-rooms now) c may) was;
     }) (rooms-same k)
 
 done-rooms : (b : BoardState) (cpu address : ℕ) (outcome : Outcome) → Rooms (instruction_done b cpu address outcome).board.kernel b.kernel
 done-rooms b cpu address Done = rooms-same b.kernel
 done-rooms b cpu address Syscall = let it = called-rooms b.kernel cpu in record { tasks = it.tasks; handlers = it.handlers }
 done-rooms b cpu address (Exception code epc bd) =
-    let it = faulted-rooms b.kernel cpu (processor_at b.kernel cpu) in record { tasks = it.tasks; handlers = it.handlers }
+    let it = prioritized-rooms b.kernel _ (faulted-rooms b.kernel cpu (processor_at b.kernel cpu)) in record { tasks = it.tasks; handlers = it.handlers }
 
 executes-rooms : (b : BoardState) (cpu : ℕ) (by : Option Executor) →
     Rooms (executes_in b cpu (executed_in b.kernel cpu b.memory b.links by)).board.kernel b.kernel
@@ -289,7 +319,7 @@ stepped-rooms b cpu (Some p) =
 ticked-rooms : (k : KernelState) → Rooms (ticked_on k (advanced k.time)) k
 ticked-rooms k =
     let time : Time = advanced k.time in
-    via (all-timed-rooms (record k { time = time }) (due_from time 0)) refl refl
+    prioritized-rooms k _ (via (all-timed-rooms (record k { time = time }) (due_from time 0)) refl refl)
 
 on-rooms : (b : BoardState) (event : Event) → Rooms (happens_on b event).board.kernel b.kernel
 on-rooms b (Step cpu) = stepped-rooms b cpu (processor_at b.kernel cpu)

@@ -1,9 +1,10 @@
 -- What a service call leaves and answers where contexts in the kernel are other ones: the same, with the other contexts.
 use Rattle.std.proofs.Common.{◌≡◌, ℕ, Bool, true, false, List, refl, sym, ap, ◌∙◌}
-use Rattle.std.specs.Prelude.{if◌then◌else◌, ◌==◌, ◌&&◌, is_some, [], ◌∷◌, slice_index, slice_index_or, Option, None, Some, is_ok, Result, Ok, Err}
+use Rattle.std.specs.Prelude.{zero, suc, if◌then◌else◌, ◌==◌, ◌&&◌, ◌||◌, is_some, [], ◌∷◌, slice_index, slice_index_or, Option, None, Some, is_ok, Result, Ok, Err}
 use Rattle.std.proofs.lemmas.Bool.{and_from, eq-eqb}
 use Rattle.brd_tasks.specs.declared.status.WaitReason.{WaitReason}
 use Rattle.brd_tasks.specs.declared.status.WaitReason.TheVariants as reason
+use Rattle.brd_tasks.specs.declared.status.WaitKind.{WaitKind}
 use Rattle.brd_tasks.specs.declared.status.WaitKind.TheVariants as kind
 use Rattle.brd_tasks.specs.declared.task.Task.{Task}
 use Rattle.brd_tasks.specs.declared.task.Request.TheVariants.{Assigned, On}
@@ -20,6 +21,7 @@ use Rattle.brd_objects.specs.Table.{object_at, object_changed}
 use Rattle.brd_objects.specs.Semaphores.{returned, first_waiter, has_one}
 use Rattle.brd_objects.specs.Flags.{joined, pattern_for, all_released, with_all_released}
 use Rattle.brd_objects.specs.DataQueues.{DataQueueState, sent, outcome, forced, forced_outcome, received, receipt}
+use Rattle.brd_objects.specs.declared.mutex.Mutex.{Mutex}
 use Rattle.brd_kernel.specs.declared.processor.Processor.{Processor}
 use Rattle.brd_kernel.specs.declared.processor.Spin.{Spin}
 use Rattle.brd_kernel.specs.declared.processor.Executor.{Executor}
@@ -32,16 +34,17 @@ use Rattle.brd_kernel.specs.declared.call.Reply.{Reply}
 use Rattle.brd_kernel.specs.declared.call.Reply.TheVariants.{Answer, Silent, Again}
 use Rattle.brd_kernel.specs.Answer.{e_ok, code_of}
 use Rattle.brd_kernel.specs.Kernel.{KernelState, processor_at, with_tasks, with_processor, holding, letting_go, executor_in, executor_on}
-use Rattle.brd_kernel.specs.Waits.{due_after, due_by, can_wait, with_wait, released_in, ended_in, reordered_in}
+use Rattle.brd_kernel.specs.Waits.{due_after, due_by, can_wait, with_wait, released_in, reordered_in, with_released, has_mutex_in, quits_in, prioritized}
 use Rattle.brd_kernel.specs.Row.{Row, Served, refused, served_object, served, ok, silent}
-use Rattle.brd_kernel.specs.Services.{named, act_tsk, can_act, ext_tsk, ter_tsk, chg_pri, get_pri, mact_tsk, mig_tsk, get_pid, rot_rdq, irot_rdq, get_tid, mark_dsp, mark_cpu, tslp_tsk, wup_tsk, can_wup, rel_wai, sus_tsk, rsm_tsk, dly_tsk, sig_sem, twai_sem, set_flg, clr_flg, twai_flg, tsnd_dtq, fsnd_dtq, trcv_dtq, put_chr, ext_ker, ret_int, loc_spn, try_spn, unl_spn, get_tim, set_tim, sns, mget_tid, mrot_rdq, ref_tsk, ref_sem, ref_flg, ref_dtq}
-use Rattle.brd_kernel.specs.Services.{bit_word, sensed, system_time, id_or_none, task_words, semaphore_words, flag_words, queue_words}
-use Rattle.brd_kernel.specs.Services.{is_held_elsewhere, is_no_processor, is_asleep, want_of, or_waits, priority_or_initial, with_released, with_all_released_in, with_satisfied_of, handed_over, with_priority_in, flag_got, queue_sent, queue_received, unmarked_on, is_taken, lock_taken_by, lock_given_by, serve_by}
-use Rattle.brd_kernel.proofs.SameLemmas.{Same, same-ended, same-broken, same-reordered, same-satisfied, same-released, same-handed}
-use Rattle.brd_kernel.proofs.WalkLemmas.{in_semaphore, in_flag, in_senders, in_receivers}
+use Rattle.brd_kernel.specs.Services.{named, act_tsk, can_act, ext_tsk, ter_tsk, chg_pri, get_pri, mact_tsk, mig_tsk, get_pid, rot_rdq, irot_rdq, get_tid, mark_dsp, mark_cpu, tslp_tsk, wup_tsk, can_wup, rel_wai, sus_tsk, rsm_tsk, dly_tsk, sig_sem, twai_sem, set_flg, clr_flg, twai_flg, tsnd_dtq, fsnd_dtq, trcv_dtq, put_chr, ext_ker, ret_int, loc_spn, try_spn, unl_spn, get_tim, set_tim, sns, mget_tid, mrot_rdq, ref_tsk, ref_sem, ref_flg, ref_dtq, tloc_mtx, unl_mtx, ref_mtx}
+use Rattle.brd_kernel.specs.Services.{bit_word, sensed, system_time, id_or_none, task_words, semaphore_words, flag_words, queue_words, mutex_words}
+use Rattle.brd_kernel.specs.Services.{is_over_mutex, is_over_below, is_over_of, is_over_for, is_over_ceiling, may_not_have, prioritized_after, with_priorities}
+use Rattle.brd_kernel.specs.Services.{is_held_elsewhere, is_no_processor, is_asleep, want_of, or_waits, priority_or_initial, with_all_released_in, with_satisfied_of, handed_over, with_priority_in, flag_got, queue_sent, queue_received, unmarked_on, is_taken, lock_taken_by, lock_given_by, serve_by}
+use Rattle.brd_kernel.proofs.SameLemmas.{Same, same-quits, same-given, same-prioritized, same-broken, same-reordered, same-satisfied, same-released, same-handed}
+use Rattle.brd_kernel.proofs.WalkLemmas.{in_semaphore, in_flag, in_senders, in_receivers, in_mutex}
 use Rattle.brd_frames.specs.Apart.{starts}
 use Rattle.brd_frames.proofs.TableLemmas.{Contexts, t-with, At, Unsteady, Restarted, through-with, changed-with, noted-with, activated-with, released-free}
-use Rattle.brd_frames.proofs.KernelLemmas.{k-with, set-same-some, changed_for-with, released_in-with, broken-with, ended_in-with}
+use Rattle.brd_frames.proofs.KernelLemmas.{k-with, set-same-some, changed_for-with, released_in-with, broken-with, released-if-with, given_in-with, quits_in-with, priorities-given-with}
 
 -- the contexts of who executes on a processor are left alone
 abbrev pub AtExecutor : Contexts → Contexts → ℕ → Option Executor → Type 0
@@ -111,6 +114,21 @@ row it does alike =
     alike-refused it.bad_id Id _ _
     (λ id. alike-refused it.bad_par Par _ _ (λ par. alike-object it does it.object refl id par alike))
 
+-- where a row refuses what it refuses by another test of the same
+iluse-object : {X : Type 0} (it : Row X) (iluse : X → Bool) (does : X → Result Served Ercd) (found : Option X) → ((x : X) → iluse x ≡ it.iluse x) →
+    served_object (record it { iluse = iluse; does = does }) found ≡ served_object (record it { does = does }) found
+iluse-object it iluse does None same = refl
+iluse-object it iluse does (Some x) same =
+    ap (λ test. refused test Iluse (refused (it.obj x) Obj (refused (it.qovr x) Qovr (does x)))) (same x)
+
+row-by : {f g : Contexts} {k : KernelState} {cpu : ℕ} {X : Type 0} (it : Row X) (iluse : X → Bool) (does : X → Result Served Ercd) →
+    ((x : X) → iluse x ≡ it.iluse x) → ((x : X) → Passed it x → Alike f g k cpu (it.does x) (does x)) →
+    Alike f g k cpu (served it) (served (record it { iluse = iluse; does = does }))
+row-by it iluse does same alike = record {
+  is = ap (λ left. refused it.bad_id Id (refused it.bad_par Par left)) (iluse-object it iluse does it.object same) ∙ (row it does alike).is;
+  stays = (row it does alike).stays;
+}
+
 -- The ends of a call.
 
 answers : {f g : Contexts} {k : KernelState} {cpu : ℕ} (now other : KernelState) (code : ℕ) (second : Option ℕ) →
@@ -154,11 +172,6 @@ or-waits f g k cpu caller why timeout entered =
     (λ long. waits f g k cpu caller why (due_by k timeout) entered)
 
 -- Releases.
-
-released-if-with : (f g : Contexts) (k : KernelState) (id : Option ℕ) → Unsteady f k.tasks →
-    with_released (k-with f g k) id ≡ k-with f g (with_released k id)
-released-if-with f g k None free = refl
-released-if-with f g k (Some id) free = released_in-with f g k id e_ok None free
 
 all-released-with : (f g : Contexts) (k : KernelState) (ids : List ℕ) (second : ℕ) → Unsteady f k.tasks →
     with_all_released_in (k-with f g k) ids second ≡ k-with f g (with_all_released_in k ids second)
@@ -244,6 +257,36 @@ was-received f g k cpu caller id timeout (Some it) free =
     answers _ _ e_ok (Some it.datum) (released-if-with f g new it.sender free) (executor-same cpu (same-released new it.sender))
 was-received f g k cpu caller id timeout None free = or-waits f g k cpu caller (reason.On kind.Datum id) timeout (in_receivers k caller id)
 
+-- Ceilings.
+
+over-below-with : (f g : Contexts) (k : KernelState) (id priority n : ℕ) → is_over_below (k-with f g k) id priority n ≡ is_over_below k id priority n
+unfolding is_over_below
+over-below-with f g k id priority zero = refl
+over-below-with f g k id priority (suc n) =
+    ap (λ test. test || (has_mutex_in id (object_at k.mutexes n) && is_over_mutex priority (object_at k.mutexes n))) (over-below-with f g k id priority n)
+
+over-of-with : (f g : Contexts) (k : KernelState) (priority : ℕ) (what : WaitKind) (object : ℕ) →
+    is_over_of (k-with f g k) priority what object ≡ is_over_of k priority what object
+over-of-with f g k priority kind.Semaphore object = refl
+over-of-with f g k priority kind.Flag object = refl
+over-of-with f g k priority kind.Room object = refl
+over-of-with f g k priority kind.Datum object = refl
+over-of-with f g k priority kind.Mutex object = refl
+
+over-for-with : (f g : Contexts) (k : KernelState) (priority : ℕ) (why : Option WaitReason) →
+    is_over_for (k-with f g k) priority why ≡ is_over_for k priority why
+over-for-with f g k priority None = refl
+over-for-with f g k priority (Some reason.Sleep) = refl
+over-for-with f g k priority (Some reason.Delay) = refl
+over-for-with f g k priority (Some (reason.On what object)) = over-of-with f g k priority what object
+
+over-with : (f g : Contexts) (k : KernelState) (id priority : ℕ) (why : Option WaitReason) →
+    is_over_ceiling (k-with f g k) id priority why ≡ is_over_ceiling k id priority why
+unfolding is_over_ceiling
+over-with f g k id priority why =
+    ap (λ test. k.standard && (test || is_over_below (k-with f g k) id priority 256)) (over-for-with f g k priority why)
+    ∙ ap (λ test. k.standard && (is_over_for k priority why || test)) (over-below-with f g k id priority 256)
+
 -- What has to be left alone where a call is served: tasks that wait, and by the call the caller, the handler or whom it
 -- starts.
 pub record Frees (f g : Contexts) (k : KernelState) (cpu caller : ℕ) (c : Call) : Type 0 where
@@ -258,7 +301,7 @@ same-number n test is = and_from (n == n) test (eq-eqb n n refl) is
 
 pub serve-alike : (f g : Contexts) (k : KernelState) (cpu caller : ℕ) (c : Call) → Frees f g k cpu caller c →
     Alike f g k cpu (serve_by k cpu caller c) (serve_by (k-with f g k) cpu caller c)
-unfolding is_held_elsewhere is_no_processor
+unfolding is_held_elsewhere is_no_processor may_not_have
 serve-alike f g k cpu caller (call.ActTsk t) free =
     row (act_tsk k (named caller t)) _ (λ task passed.
     tasks f g k cpu _ _ (activated-with f k.tasks (named caller t) Assigned (λ here there dormant.
@@ -276,17 +319,21 @@ serve-alike f g k cpu caller (call.CanAct t) free =
 serve-alike f g k cpu caller call.ExtTsk free =
     row (ext_tsk k cpu caller) _ (λ task passed.
     silently _ _
-    (ap (λ now. unmarked_on now cpu (processor_at k cpu)) (ended_in-with f g k caller (λ task request there queued. free.exits refl))
-    ∙ unmarked-with f g (ended_in k caller) cpu (processor_at k cpu)))
+    (ap (λ now. unmarked_on now cpu (processor_at k cpu))
+    (quits_in-with f g k caller free.unsteady (λ task request there queued. free.exits refl))
+    ∙ unmarked-with f g (quits_in k caller) cpu (processor_at k cpu)))
 serve-alike f g k cpu caller (call.TerTsk t) free =
     row (ter_tsk k cpu caller t) _ (λ task passed.
     answers _ _ e_ok None
-    (ended_in-with f g k t (λ here request there queued.
+    (quits_in-with f g k t free.unsteady (λ here request there queued.
     free.starts t here there (same-number t (is_some here.activation) (ap is_some queued))
     (ap is_ok (passed-does (ter_tsk k cpu caller t) task passed))))
-    (executor-same cpu (same-ended k t)))
+    (executor-same cpu (same-quits k t)))
 serve-alike f g k cpu caller (call.ChgPri t priority) free =
-    row (chg_pri k (named caller t) priority) _ (λ (task : Task) passed.
+    row-by (chg_pri k (named caller t) priority)
+    (λ task. is_over_ceiling (k-with f g k) (named caller t) (priority_or_initial priority task) (waiting_of task.status)) _
+    (λ (task : Task). over-with f g k (named caller t) (priority_or_initial priority task) (waiting_of task.status))
+    (λ (task : Task) passed.
     answers _ _ e_ok None
     (prioritized-with f g k (named caller t) (priority_or_initial priority task) (waiting_of task.status))
     (executor-same cpu (same-reordered (with_tasks k (changed (with_priority (priority_or_initial priority task)) k.tasks (named caller t)))
@@ -406,3 +453,40 @@ serve-alike f g k cpu caller (call.RefFlg flag word) free =
     row (ref_flg k flag word) _ (λ (it : Flag) passed. answers _ _ e_ok (Some (slice_index (flag_words it) word)) refl refl)
 serve-alike f g k cpu caller (call.RefDtq q word) free =
     row (ref_dtq k q word) _ (λ (it : DataQueueState) passed. answers _ _ e_ok (Some (slice_index (queue_words it) word)) refl refl)
+serve-alike f g k cpu caller (call.TlocMtx m timeout) free =
+    row (tloc_mtx k caller m timeout) _ (λ (it : Mutex) passed.
+    alike-if (is_some it.owner) _ _ _ _ (λ held. or-waits f g k cpu caller (reason.On kind.Mutex m) timeout (in_mutex k caller m))
+    (λ none. answers _ _ e_ok None refl refl))
+serve-alike f g k cpu caller (call.UnlMtx m) free =
+    row (unl_mtx k caller m) _ (λ it passed.
+    answers _ _ e_ok None (given_in-with f g k m free.unsteady) (executor-same cpu (same-given k m)))
+serve-alike f g k cpu caller (call.RefMtx m word) free =
+    row (ref_mtx k m word) _ (λ (it : Mutex) passed. answers _ _ e_ok (Some (slice_index (mutex_words it) word)) refl refl)
+
+-- Then tasks are given the priorities that they are to have.
+
+after-with : (f g : Contexts) (k : KernelState) (reply : Reply) →
+    prioritized_after (k-with f g k) reply ≡ k-with f g (prioritized_after k reply)
+after-with f g k (Answer code second) = priorities-given-with f g k
+after-with f g k Silent = priorities-given-with f g k
+after-with f g k Again = refl
+
+after-stays : (k now : KernelState) (cpu : ℕ) (reply : Reply) → StaysBy k cpu now reply → StaysBy k cpu (prioritized_after now reply) reply
+after-stays k now cpu (Answer code second) stays = executor-same cpu (same-prioritized now) ∙ stays
+after-stays k now cpu Silent stays = tt
+after-stays k now cpu Again stays = tt
+
+says-with : (f g : Contexts) (says : Result Served Ercd) → with_priorities (r-with f g says) ≡ r-with f g (with_priorities says)
+says-with f g (Ok done) = ap (λ left. Ok (record { kernel = left; reply = done.reply })) (after-with f g done.kernel done.reply)
+says-with f g (Err code) = refl
+
+says-stay : (k : KernelState) (cpu : ℕ) (says : Result Served Ercd) → Stays k cpu says → Stays k cpu (with_priorities says)
+says-stay k cpu (Ok done) stays = after-stays k done.kernel cpu done.reply stays
+says-stay k cpu (Err code) stays = tt
+
+pub priorities-alike : (f g : Contexts) (k : KernelState) (cpu : ℕ) (one two : Result Served Ercd) → Alike f g k cpu one two →
+    Alike f g k cpu (with_priorities one) (with_priorities two)
+priorities-alike f g k cpu one two alike = record {
+  is = ap with_priorities alike.is ∙ says-with f g one;
+  stays = says-stay k cpu one alike.stays;
+}

@@ -1,8 +1,8 @@
 -- An event that starts a task does the same whatever the task's context was.
-use Rattle.std.proofs.Common.{◌≡◌, ℕ, Bool, true, false, List, refl, sym, ap, subst, ◌∙◌}
-use Rattle.std.specs.Prelude.{if◌then◌else◌, ◌==◌, ◌&&◌, slice_index_or, slice_set, Option, None, Some, is_some, is_ok, Result, Ok, Err}
+use Rattle.std.proofs.Common.{◌≡◌, ℕ, Bool, true, false, List, refl, sym, ap, subst, ◌∙◌, inl, inr}
+use Rattle.std.specs.Prelude.{zero, suc, if◌then◌else◌, ◌==◌, ◌&&◌, slice_index_or, slice_set, Option, None, Some, is_some, is_ok, Result, Ok, Err}
 use Rattle.std.specs.Option.{option_map}
-use Rattle.std.proofs.lemmas.Bool.{false≢true, and_parts, eqb-true}
+use Rattle.std.proofs.lemmas.Bool.{false≢true, and_parts, eqb-true, cases_eq}
 use Rattle.std.proofs.lemmas.List.{set-set}
 use Rattle.brd_exec.specs.State.{State, advanced}
 use Rattle.brd_exec.specs.Step.{Ran, ran}
@@ -12,8 +12,9 @@ use Rattle.brd_link.specs.LinkSet.{without}
 use Rattle.brd_tasks.specs.declared.task.Task.{Task}
 use Rattle.brd_tasks.specs.declared.task.Request.{Request}
 use Rattle.brd_tasks.specs.declared.task.Request.TheVariants.{Assigned, On}
-use Rattle.brd_tasks.specs.Status.{is_dormant}
-use Rattle.brd_tasks.specs.Tasks.{TaskTable, task_at, opening_of, started, processor_of, placed, patched, where_there, starts as started_on, activated, ended_by, ended}
+use Rattle.brd_tasks.specs.declared.status.Status.{Status}
+use Rattle.brd_tasks.specs.Status.{is_dormant, released}
+use Rattle.brd_tasks.specs.Tasks.{TaskTable, task_at, opening_of, started, processor_of, placed, patched, where_there, starts as started_on, activated, ended_by, ended, context_at, answered, released_to, released_with}
 use Rattle.brd_time.specs.Time.{with_due}
 use Rattle.brd_kernel.specs.declared.processor.Processor.{Processor}
 use Rattle.brd_kernel.specs.declared.processor.Executor.{Executor}
@@ -23,9 +24,12 @@ use Rattle.brd_kernel.specs.declared.call.Call.TheVariants as call
 use Rattle.brd_kernel.specs.declared.call.Ercd.{Ercd}
 use Rattle.brd_kernel.specs.declared.call.Ercd.TheVariants.{Id, Par, Iluse, Obj, Qovr}
 use Rattle.brd_kernel.specs.Kernel.{KernelState, processor_at, executor_on, context_of, with_context_of, context_on, deliverable}
-use Rattle.brd_kernel.specs.Waits.{unlisted, ended_in}
+use Rattle.brd_objects.specs.Mutexes.{given, next_owner_in}
+use Rattle.brd_objects.specs.Table.{object_at, object_changed}
+use Rattle.brd_kernel.specs.Answer.{e_ok}
+use Rattle.brd_kernel.specs.Waits.{unlisted, ended_in, with_released, has_mutex_in, given_in, given_by_in, given_below, all_given_in, quits_in}
 use Rattle.brd_kernel.specs.Row.{Row, Served, refused, served_object, served, ok, or_refused}
-use Rattle.brd_kernel.specs.Services.{is_held_elsewhere, is_no_processor, named, act_tsk, mact_tsk, ter_tsk, caller_on, serve_by, serve_of, comes_again}
+use Rattle.brd_kernel.specs.Services.{is_held_elsewhere, is_no_processor, named, act_tsk, mact_tsk, ter_tsk, caller_on, serve_by, with_priorities, serve_of, comes_again}
 use Rattle.brd_sysgate.specs.Gate.{read_of, caller_of, served_call, changed_in, with_changed_context, replied, is_again, called_for, called_in, called}
 use Rattle.brd_board.specs.Executing.{executed_by, executed_in}
 use Rattle.brd_board.specs.declared.event.Event.{Event}
@@ -35,12 +39,12 @@ use Rattle.brd_board.specs.Board.{BoardState, Happened, reported, then_dispatche
 use Rattle.brd_frames.specs.Agents as agents
 use Rattle.brd_frames.specs.Agents.{Agent, agent_by, with_agent}
 use Rattle.brd_frames.specs.Apart.{Calls, starts, Starts, Executes}
-use Rattle.brd_frames.proofs.TableLemmas.{Contexts, t-with, At}
-use Rattle.brd_frames.proofs.KernelLemmas.{k-with, unlisted-with}
+use Rattle.brd_frames.proofs.TableLemmas.{Contexts, t-with, At, released-at-with, queued_in}
+use Rattle.brd_frames.proofs.KernelLemmas.{k-with, unlisted-with, all-given-queued}
 use Rattle.brd_frames.proofs.ServiceLemmas.{AtExecutor, Passed}
 use Rattle.brd_frames.proofs.CallLemmas.{context-with, put-same, changed-with, starts-put}
 use Rattle.brd_frames.proofs.StepLemmas.{left_by, step-is, syscall-keeps}
-use Rattle.brd_frames.proofs.FrameLemmas.{task-at}
+use Rattle.brd_frames.proofs.FrameLemmas.{task-at, at-other}
 
 -- another context at an ID
 abbrev other : ℕ → State → Contexts
@@ -83,18 +87,46 @@ ended-by-same : (t : TaskTable) (at : ℕ) (task : Task) (s : State) (queued : O
 ended-by-same t at task s None is = absurd (false≢true is)
 ended-by-same t at task s (Some request) is = started-same t at (processor_of request task) task s
 
-ended-row : (t : TaskTable) (at : ℕ) (task : Task) (s : State) (row : Option Task) → row ≡ Some task → is_some task.activation ≡ true →
+ended-row : (t : TaskTable) (at : ℕ) (s : State) (row : Option Task) → is_some (queued_in row) ≡ true →
     where_there (t-with (other at s) t) row (λ task. ended_by (t-with (other at s) t) at task task.activation)
     ≡ where_there t row (λ task. ended_by t at task task.activation)
-ended-row t at task s None there queued = let wrong : ⊥ = cc in absurd wrong
-ended-row t at task s (Some found) there queued =
-    let same : found ≡ task = cc in
-    ended-by-same t at found s found.activation (ap (λ (x : Task). is_some x.activation) same ∙ queued)
+ended-row t at s None queued = absurd (false≢true queued)
+ended-row t at s (Some found) queued = ended-by-same t at found s found.activation queued
 
-ended-same : (t : TaskTable) (id at : ℕ) (task : Task) (s : State) → id ≡ at → task_at t at ≡ Some task → is_some task.activation ≡ true →
+ended-same : (t : TaskTable) (id at : ℕ) (s : State) → id ≡ at → is_some (queued_in (task_at t at)) ≡ true →
     ended (t-with (other at s) t) id ≡ ended t id
-ended-same t id at task s same there queued =
-    subst (λ n. ended (t-with (other at s) t) n ≡ ended t n) (sym same) (ended-row t at task s (task_at t at) there queued)
+ended-same t id at s same queued =
+    subst (λ n. ended (t-with (other at s) t) n ≡ ended t n) (sym same) (ended-row t at s (task_at t at) queued)
+
+-- a table that is another one but for a context at an ID
+record TableBut (at : ℕ) (new old : TaskTable) : Type 0 where
+  context : State
+  is : new ≡ t-with (other at context) old
+
+to-but : (t : TaskTable) (at answer : ℕ) (second : Option ℕ) (s : State) (task : Task) (to : Option Status) →
+    TableBut at (released_to (t-with (other at s) t) at answer second task to) (released_to t at answer second task to)
+to-but t at answer second s task None = record { context = s; is = refl }
+to-but t at answer second s task (Some to) =
+    let next : State = answered (context_at (t-with (other at s) t) at) answer second in
+    record {
+      context = next;
+      is = ap (λ contexts. record (placed t at (record task { status = to })) { contexts = contexts })
+          (set-set t.contexts at s next ∙ sym (set-set t.contexts at (answered (context_at t at) answer second) next));
+    }
+
+row-but : (t : TaskTable) (at answer : ℕ) (second : Option ℕ) (s : State) (row : Option Task) →
+    TableBut at (where_there (t-with (other at s) t) row (λ task. released_to (t-with (other at s) t) at answer second task (released task.status)))
+    (where_there t row (λ task. released_to t at answer second task (released task.status)))
+row-but t at answer second s None = record { context = s; is = refl }
+row-but t at answer second s (Some task) = to-but t at answer second s task (released task.status)
+
+released-but : (t : TaskTable) (id at answer : ℕ) (second : Option ℕ) (s : State) →
+    TableBut at (released_with (t-with (other at s) t) id answer second) (released_with t id answer second)
+released-but t id at answer second s = elim (cases_eq id at) [
+  | inl same ↦ subst (λ n. TableBut at (released_with (t-with (other at s) t) n answer second) (released_with t n answer second)) (sym same)
+    (row-but t at answer second s (task_at t at))
+  | inr apart ↦ record { context = s; is = released-at-with (other at s) t id answer second (at-other at id s apart) }
+]
 
 -- Calls.
 
@@ -117,12 +149,60 @@ same-row : {X : Type 0} (it : Row X) (does : X → Result Served Ercd) → ((x :
 same-row it does same =
     same-refused it.bad_id Id _ _ (λ id. same-refused it.bad_par Par _ _ (λ par. same-object it does it.object refl id par same))
 
-ended-in-same : (k : KernelState) (id at : ℕ) (task : Task) (s : State) → id ≡ at → task_at k.tasks at ≡ Some task →
-    is_some task.activation ≡ true → ended_in (k-with (other at s) (λ xs. xs) k) id ≡ ended_in k id
-ended-in-same k id at task s same there queued =
+ended-in-same : (k : KernelState) (id at : ℕ) (s : State) → id ≡ at → is_some (queued_in (task_at k.tasks at)) ≡ true →
+    ended_in (k-with (other at s) (λ xs. xs) k) id ≡ ended_in k id
+ended-in-same k id at s same queued =
     ap (λ (out : KernelState). record out { tasks = ended (t-with (other at s) k.tasks) id; time = with_due k.time id None })
     (unlisted-with (other at s) (λ xs. xs) k id)
-    ∙ ap (λ t. record (unlisted k id) { tasks = t; time = with_due k.time id None }) (ended-same k.tasks id at task s same there queued)
+    ∙ ap (λ t. record (unlisted k id) { tasks = t; time = with_due k.time id None }) (ended-same k.tasks id at s same queued)
+
+-- a kernel that is another one but for a context of a task
+record But (at : ℕ) (new old : KernelState) : Type 0 where
+  context : State
+  is : new ≡ k-with (other at context) (λ xs. xs) old
+
+released-if-but : (k : KernelState) (at : ℕ) (s : State) (id : Option ℕ) →
+    But at (with_released (k-with (other at s) (λ xs. xs) k) id) (with_released k id)
+released-if-but k at s None = record { context = s; is = refl }
+released-if-but k at s (Some id) =
+    let but : TableBut at (released_with (t-with (other at s) k.tasks) id e_ok None) (released_with k.tasks id e_ok None) =
+    released-but k.tasks id at e_ok None s in
+    record {
+      context = but.context;
+      is = ap (λ t. record (k-with (other at s) (λ xs. xs) k) { tasks = t; time = with_due k.time id None }) but.is;
+    }
+
+given-if-but : (k : KernelState) (at mutex : ℕ) (s : State) (has : Bool) →
+    But at (if has then given_in (k-with (other at s) (λ xs. xs) k) mutex else k-with (other at s) (λ xs. xs) k)
+    (if has then given_in k mutex else k)
+given-if-but k at mutex s true =
+    released-if-but (record k { mutexes = object_changed given k.mutexes mutex }) at s (next_owner_in (object_at k.mutexes mutex))
+given-if-but k at mutex s false = record { context = s; is = refl }
+
+given-below-but : (k : KernelState) (id at : ℕ) (s : State) (n : ℕ) →
+    But at (given_below (k-with (other at s) (λ xs. xs) k) id n) (given_below k id n)
+unfolding given_below
+given-below-but k id at s zero = record { context = s; is = refl }
+given-below-but k id at s (suc n) =
+    let before : KernelState = given_below k id n in
+    let first : But at (given_below (k-with (other at s) (λ xs. xs) k) id n) before = given-below-but k id at s n in
+    let more : But at (given_by_in (k-with (other at first.context) (λ xs. xs) before) id n) (given_by_in before id n) =
+    given-if-but before at n first.context (has_mutex_in id (object_at before.mutexes n)) in
+    record { context = more.context; is = ap (λ now. given_by_in now id n) first.is ∙ more.is }
+
+all-given-but : (k : KernelState) (id at : ℕ) (s : State) (standard : Bool) →
+    But at (if standard then given_below (k-with (other at s) (λ xs. xs) k) id 256 else k-with (other at s) (λ xs. xs) k)
+    (if standard then given_below k id 256 else k)
+all-given-but k id at s true = given-below-but k id at s 256
+all-given-but k id at s false = record { context = s; is = refl }
+
+quits-in-same : (k : KernelState) (id at : ℕ) (task : Task) (s : State) → id ≡ at → task_at k.tasks at ≡ Some task →
+    is_some task.activation ≡ true → quits_in (k-with (other at s) (λ xs. xs) k) id ≡ quits_in k id
+quits-in-same k id at task s same there queued =
+    let but : But at (all_given_in (k-with (other at s) (λ xs. xs) k) id) (all_given_in k id) = all-given-but k id at s k.standard in
+    ap (λ now. ended_in now id) but.is
+    ∙ ended-in-same (all_given_in k id) id at but.context same
+    (ap is_some (all-given-queued k id at ∙ ap queued_in there) ∙ queued)
 
 serve-same : (k : KernelState) (cpu by at : ℕ) (c : Call) (task : Task) (s : State) → starts c by at task ≡ true → task_at k.tasks at ≡ Some task →
     serve_by (k-with (other at s) (λ xs. xs) k) cpu by c ≡ serve_by k cpu by c
@@ -146,7 +226,7 @@ serve-same k cpu by at (call.ImactTsk t to) task s is there =
 serve-same k cpu by at (call.TerTsk t) task s is there =
     let both = and_parts (t == at) (is_some task.activation) is in
     same-row (ter_tsk k cpu by t) _ (λ found passed.
-    ap (λ left. ok left) (ended-in-same k t at task s (eqb-true t at both.0) there both.1))
+    ap (λ left. ok left) (quits-in-same k t at task s (eqb-true t at both.0) there both.1))
 serve-same k cpu by at _ task s is there = absurd (false≢true is)
 
 comes-once : (k : KernelState) (by id : ℕ) (c : Call) (task : Task) → starts c by id task ≡ true → comes_again k c ≡ false
@@ -157,18 +237,24 @@ refused-same : (one two : KernelState) (says : Result Served Ercd) → is_ok say
 refused-same one two (Ok done) is = refl
 refused-same one two (Err code) is = absurd (false≢true is)
 
+ok-priorities : (says : Result Served Ercd) → is_ok says ≡ true → is_ok (with_priorities says) ≡ true
+ok-priorities (Ok done) is = refl
+ok-priorities (Err code) is = is
+
 -- in the kernel in which the context has gone on
 served-same : (k : KernelState) (cpu : ℕ) (who : Executor) (next : State) (at : ℕ) (c : Call) (task : Task) (s : State) →
     starts c (caller_on k cpu) at task ≡ true → task_at k.tasks at ≡ Some task → is_ok (serve_by k cpu (caller_on k cpu) c) ≡ true →
     serve_of (k-with (other at s) (λ xs. xs) (with_context_of k cpu who next)) cpu c ≡ serve_of (with_context_of k cpu who next) cpu c
 served-same k cpu executor.Handler next at c task s is there serves =
     let now : KernelState = with_context_of k cpu executor.Handler next in
-    ap (or_refused (k-with (other at s) (λ xs. xs) now)) (serve-same now cpu (caller_on now cpu) at c task s is there)
-    ∙ refused-same _ now (serve_by now cpu (caller_on now cpu) c) (sym (starts-put k cpu executor.Handler next at c task is) ∙ serves)
+    ap (λ says. or_refused (k-with (other at s) (λ xs. xs) now) (with_priorities says)) (serve-same now cpu (caller_on now cpu) at c task s is there)
+    ∙ refused-same _ now (with_priorities (serve_by now cpu (caller_on now cpu) c))
+    (ok-priorities (serve_by now cpu (caller_on now cpu) c) (sym (starts-put k cpu executor.Handler next at c task is) ∙ serves))
 served-same k cpu (executor.Task own) next at c task s is there serves =
     let now : KernelState = with_context_of k cpu (executor.Task own) next in
-    ap (or_refused (k-with (other at s) (λ xs. xs) now)) (serve-same now cpu (caller_on now cpu) at c task s is there)
-    ∙ refused-same _ now (serve_by now cpu (caller_on now cpu) c) (sym (starts-put k cpu (executor.Task own) next at c task is) ∙ serves)
+    ap (λ says. or_refused (k-with (other at s) (λ xs. xs) now) (with_priorities says)) (serve-same now cpu (caller_on now cpu) at c task s is there)
+    ∙ refused-same _ now (with_priorities (serve_by now cpu (caller_on now cpu) c))
+    (ok-priorities (serve_by now cpu (caller_on now cpu) c) (sym (starts-put k cpu (executor.Task own) next at c task is) ∙ serves))
 
 called-same : (k : KernelState) (cpu : ℕ) (who : Executor) (at : ℕ) (c : Call) (task : Task) (s : State) → executor_on k cpu ≡ Some who →
     AtExecutor (other at s) (λ xs. xs) cpu (Some who) → read_of (context_of k cpu who) (caller_of k cpu) ≡ Ok c →

@@ -16,7 +16,7 @@ use Rattle.brd_tasks.specs.declared.status.WaitReason.TheVariants as reason
 use Rattle.brd_tasks.specs.declared.task.Task.{Task}
 use Rattle.brd_tasks.specs.declared.task.Request.{Request}
 use Rattle.brd_tasks.specs.Status.{waiting_of, is_dormant, is_waiting, released, blocked, suspended, resumed}
-use Rattle.brd_tasks.specs.Tasks.{TaskTable, task_at, ready_on, first_id, started, processor_of, placed, patched, where_there, starts, activated, ended_by, ended, put_into, through, released_to, released_with, changed, noted, turned, with_priority, on_processor, with_wakeup, without_activation}
+use Rattle.brd_tasks.specs.Tasks.{TaskTable, task_at, ready_on, first_id, started, processor_of, placed, patched, where_there, starts, activated, ended_by, ended, put_into, through, released_to, released_with, changed, noted, turned, on_processor, with_wakeup, without_activation}
 use Rattle.brd_time.specs.Time.{Time, last_count, advanced, due_from}
 use Rattle.brd_objects.specs.declared.flag.Flag.{Flag}
 use Rattle.brd_objects.specs.declared.semaphore.Semaphore.{Semaphore}
@@ -27,19 +27,23 @@ use Rattle.brd_objects.specs.Table.{object_at, object_changed}
 use Rattle.brd_objects.specs.Semaphores.{returned, first_waiter}
 use Rattle.brd_objects.specs.Flags.{joined, all_released, with_all_released}
 use Rattle.brd_objects.specs.DataQueues.{DataQueueState, sent, outcome, forced, forced_outcome, received}
+use Rattle.brd_objects.specs.declared.mutex.Mutex.{Mutex}
+use Rattle.brd_objects.specs.Mutexes.{given, next_owner_in}
 use Rattle.brd_kernel.specs.declared.processor.Processor.{Processor}
 use Rattle.brd_kernel.specs.declared.processor.Executor.{Executor}
 use Rattle.brd_kernel.specs.declared.processor.Executor.TheVariants as executor
 use Rattle.brd_kernel.specs.declared.call.Call.{Call}
 use Rattle.brd_kernel.specs.Answer.{e_ok}
 use Rattle.brd_kernel.specs.Kernel.{KernelState, processor_at, is_held, with_tasks, with_processor, unmarked, running_in, executor_by, executor_in, executor_on, context_of, with_context_of, deliverable, pending_from, accepts, handles, accepted_line, line_at, with_pending}
-use Rattle.brd_kernel.specs.Waits.{can_wait, with_wait, released_in, reason_of, unlisted, broken_off, ended_in, answer_by, timed_out, all_timed_out, ticked_on, faulted_task, faulted_in, ended_by_fault}
+use Rattle.brd_kernel.specs.Waits.{can_wait, with_wait, released_in, reason_of, unlisted, broken_off, answer_by, timed_out, all_timed_out, ticked_on, faulted_task, faulted_in, ended_by_fault, with_released, given_in, all_given_in, quits_in, prioritized}
 use Rattle.brd_kernel.specs.Dispatch.{dispatched_one, dispatched_from, dispatched}
-use Rattle.brd_kernel.specs.Services.{with_released, with_all_released_in, with_satisfied_of, handed_over, with_priority_in, unmarked_on, handler_ended, serve_of, caller_on}
+use Rattle.brd_kernel.specs.Services.{with_all_released_in, with_satisfied_of, handed_over, unmarked_on, handler_ended, serve_of, caller_on}
 use Rattle.brd_kernel.proofs.WaitLemmas.{unlisted-only, reordered-only}
+use Rattle.brd_kernel.proofs.PricedLemmas.{priced, priced_in}
+use Rattle.brd_kernel.proofs.SettledLemmas.{Settles, all-given, all-prioritized}
 use Rattle.brd_kernel.proofs.WalkLemmas.{Lacks, No-one, lacked, awaiting, Fact, Unheld, Law, serve-leaves}
 use Rattle.brd_kernel.proofs.who_runs.RunningCallLemmas.{known_of, MayServe}
-use Rattle.brd_kernel.proofs.SameLemmas.{Same, same-ended, same-timed, same-law}
+use Rattle.brd_kernel.proofs.SameLemmas.{Same, same-quits, same-timed, same-prioritized, same-law}
 use Rattle.brd_sysgate.specs.Gate.{called}
 use Rattle.brd_board.specs.Executing.{executed_by, executed_in}
 use Rattle.brd_board.specs.declared.event.Event.{Event}
@@ -207,6 +211,30 @@ unmarked-rests : (id : ℕ) (k : KernelState) (cpu : ℕ) (found : Option Proces
 unmarked-rests id k cpu None was = was
 unmarked-rests id k cpu (Some p) was = was
 
+-- Mutexes and priorities.
+
+given-rests : (id : ℕ) (k : KernelState) (at : ℕ) → RestsIn id k → RestsIn id (given_in k at)
+given-rests id k at was =
+    released-if-rests id (record k { mutexes = object_changed given k.mutexes at }) (next_owner_in (object_at k.mutexes at)) was
+
+priced-rests : (id : ℕ) (k : KernelState) (base : Task → ℕ) (at priority : ℕ) (why : Option WaitReason) → RestsIn id k →
+    RestsIn id (priced_in k base at priority why)
+priced-rests id k base at priority why was =
+    let new : KernelState = with_tasks k (changed (priced base priority) k.tasks at) in
+    subst (Rests id) (sym (reordered-only new at priority why).tasks) (changed-rests id at (priced base priority) k.tasks was (λ it. refl))
+
+rests-settle : (id : ℕ) → Settles (RestsIn id)
+rests-settle id = record {
+  gives = λ k at m there was. given-rests id k at was;
+  prices = λ k base at priority (task : Task) there was. priced-rests id k base at priority (waiting_of task.status) was;
+}
+
+quits-rests : (id at : ℕ) (k : KernelState) → RestsIn id k → RestsIn id (quits_in k at)
+quits-rests id at k was = ended-rests id at (all_given_in k at).tasks (all-given (RestsIn id) k at (rests-settle id) was)
+
+prioritized-rests : (id : ℕ) (k : KernelState) → RestsIn id k → RestsIn id (prioritized k)
+prioritized-rests id k was = all-prioritized (RestsIn id) k (rests-settle id) was
+
 rests-law : (Known : Fact → Type 0) (id : ℕ) (k : KernelState) (cpu caller : ℕ) → (Known Unheld → caller ≡ id → ⊥) → RestsIn id k →
     Law Known (λ new. RestsIn id new) k cpu caller
 rests-law Known id k cpu caller apart was = record {
@@ -215,12 +243,9 @@ rests-law Known id k cpu caller apart was = record {
   cancels = λ at. noted-rests id at without_activation k.tasks was (λ task. refl);
   wakes = λ at task there awake. noted-rests id at (with_wakeup true) k.tasks was (λ task. refl);
   unwakes = λ at. noted-rests id at (with_wakeup false) k.tasks was (λ task. refl);
-  exits = λ known. unmarked-rests id (ended_in k caller) cpu (processor_at k cpu) (ended-rests id caller k.tasks was);
-  ends = λ at task there held other. ended-rests id at k.tasks was;
-  prioritizes = λ at priority (task : Task) there.
-      let new : KernelState = with_tasks k (changed (with_priority priority) k.tasks at) in
-      subst (Rests id) (sym (reordered-only new at priority (waiting_of task.status)).tasks)
-      (changed-rests id at (with_priority priority) k.tasks was (λ it. refl));
+  exits = λ known. unmarked-rests id (quits_in k caller) cpu (processor_at k cpu) (quits-rests id caller k was);
+  ends = λ at task there held other. quits-rests id at k was;
+  prioritizes = λ base at priority (task : Task) there. priced-rests id k base at priority (waiting_of task.status) was;
   migrates = λ at to task there held absent may. changed-rests id at (on_processor to) k.tasks was (λ it. refl);
   suspends = λ at task there held may. rouses-rests id at suspended k.tasks was suspended-rouses;
   resumes = λ at. rouses-rests id at resumed k.tasks was resumed-rouses;
@@ -245,6 +270,8 @@ rests-law Known id k cpu caller apart was = record {
       handed-rests id (record k { queues = object_changed (forced datum) k.queues at }) datum (forced_outcome q) was;
   receives = λ at q (it : Received) there is.
       released-if-rests id (record k { queues = object_changed received k.queues at }) it.sender was;
+  locks = λ at m there. was;
+  gives = λ at m there. given-rests id k at was;
   awaits = λ at due lacks known. wait-rests id caller k (reason.On (lacked lacks) at) due (awaiting k caller at lacks) (apart known) was;
   writes = λ word. was;
   ends_all = was;
@@ -283,14 +310,14 @@ called-rests id k cpu apart was =
           (sym (ap (λ ps. executor_in (slice_index_or ps cpu None)) same.processors)
           ∙ ap executor_in there
           ∙ waits-executes p (caller_on now cpu) known
-          ∙ ap (λ x. Some (executor.Task x)) is)) was) c may;
+          ∙ ap (λ x. Some (executor.Task x)) is)) was) (prioritized-rests id) c may;
     }) was
 
 faulted-rests : (id : ℕ) (k : KernelState) (cpu : ℕ) (p : Processor) (running : Option ℕ) → RestsIn id k →
     RestsIn id (faulted_task k cpu p running)
 faulted-rests id k cpu p None was = was
 faulted-rests id k cpu p (Some at) was =
-    ended-rests id at (noted without_activation k.tasks at) (noted-rests id at without_activation k.tasks was (λ task. refl))
+    quits-rests id at (with_tasks k (noted without_activation k.tasks at)) (noted-rests id at without_activation k.tasks was (λ task. refl))
 
 faulted-in-rests : (id : ℕ) (k : KernelState) (cpu : ℕ) (found : Option Processor) → RestsIn id k → RestsIn id (faulted_in k cpu found)
 faulted-in-rests id k cpu None was = was
@@ -343,11 +370,11 @@ called-elsewhere at k cpu apart =
           (same-law {Known = known_of p (caller_on now cpu)} (λ new. Elsewhere at new now) now cpu (caller_on now cpu) (record {
             same = λ new so. same-elsewhere at new now so;
             exits = λ known.
-                unmarked-elsewhere at (ended_in now (caller_on now cpu)) cpu (processor_at now cpu) apart
-                ∙ same-elsewhere at (ended_in now (caller_on now cpu)) now (same-ended now (caller_on now cpu));
+                unmarked-elsewhere at (quits_in now (caller_on now cpu)) cpu (processor_at now cpu) apart
+                ∙ same-elsewhere at (quits_in now (caller_on now cpu)) now (same-quits now (caller_on now cpu));
             marks = λ p q there runs holding. get_or-set_other now.processors cpu at (Some q) None apart;
             returns = λ p there. get_or-set_other now.processors cpu at (Some (record p { handling = None })) None apart;
-          })) c may ∙ was;
+          })) (λ new so. same-elsewhere at (prioritized new) new (same-prioritized new) ∙ so) c may ∙ was;
     }) refl
 
 faulted-task-elsewhere : (at : ℕ) (k : KernelState) (cpu : ℕ) (p : Processor) (running : Option ℕ) → (at ≡ cpu → ⊥) →
@@ -355,8 +382,8 @@ faulted-task-elsewhere : (at : ℕ) (k : KernelState) (cpu : ℕ) (p : Processor
 faulted-task-elsewhere at k cpu p None apart = refl
 faulted-task-elsewhere at k cpu p (Some id) apart =
     let quiet : KernelState = with_tasks k (noted without_activation k.tasks id) in
-    get_or-set_other (ended_in quiet id).processors cpu at (Some (unmarked p)) None apart
-    ∙ same-elsewhere at (ended_in quiet id) quiet (same-ended quiet id)
+    get_or-set_other (quits_in quiet id).processors cpu at (Some (unmarked p)) None apart
+    ∙ same-elsewhere at (quits_in quiet id) quiet (same-quits quiet id)
 
 if-elsewhere : (at : ℕ) (k one other : KernelState) (test : Bool) → Elsewhere at one k → Elsewhere at other k →
     Elsewhere at (if test then one else other) k
@@ -461,8 +488,9 @@ task-stays b cpu id off apart was = record {
         uninterrupted = none;
       })) (put-rests-in id b.kernel cpu who s was);
   faults = λ who s on none.
-      faulted-in-rests id (with_context_of b.kernel cpu who s) cpu (processor_at (with_context_of b.kernel cpu who s) cpu)
-      (put-rests-in id b.kernel cpu who s was);
+      let now : KernelState = with_context_of b.kernel cpu who s in
+      prioritized-rests id (faulted_in now cpu (processor_at now cpu))
+      (faulted-in-rests id now cpu (processor_at now cpu) (put-rests-in id b.kernel cpu who s was));
   accepts = λ line is. handles-rests id b.kernel cpu line (processor_at b.kernel cpu) was;
 }
 
@@ -475,7 +503,9 @@ other-stays b cpu at apart was = record {
       ap is_handling (called-elsewhere at (with_context_of b.kernel cpu who s) cpu apart ∙ put-elsewhere at b.kernel cpu who s) ∙ was;
   faults = λ who s on none.
       let now : KernelState = with_context_of b.kernel cpu who s in
-      ap is_handling (faulted-elsewhere at now cpu (processor_at now cpu) apart ∙ put-elsewhere at b.kernel cpu who s) ∙ was;
+      let over : KernelState = faulted_in now cpu (processor_at now cpu) in
+      ap is_handling (same-elsewhere at (prioritized over) over (same-prioritized over)
+      ∙ faulted-elsewhere at now cpu (processor_at now cpu) apart ∙ put-elsewhere at b.kernel cpu who s) ∙ was;
   accepts = λ line is. ap is_handling (handles-elsewhere at b.kernel cpu line (processor_at b.kernel cpu) apart) ∙ was;
 }
 
@@ -507,15 +537,20 @@ on-steady b (Step cpu) (agents.Handler at) off apart =
     stepped-stays (Works at) b cpu (processor_at b.kernel cpu) refl apart.steady
     (λ p there on. handler-stays b cpu at p there on apart.elsewhere apart.steady)
 on-steady b Tick (agents.Task id) off apart =
+    let now : KernelState = record b.kernel { time = advanced b.kernel.time } in
+    let ids : List ℕ = due_from (advanced b.kernel.time) 0 in
     ap not (either-stays (RestsIn id) (nat_lt b.kernel.time.count last_count) _ _
-    (all-timed-rests id (record b.kernel { time = advanced b.kernel.time }) (due_from (advanced b.kernel.time) 0) (rests-so b.kernel id apart.steady))
+    (prioritized-rests id (all_timed_out now ids) (all-timed-rests id now ids (rests-so b.kernel id apart.steady)))
     (rests-so b.kernel id apart.steady))
 on-steady b Tick (agents.Handler at) off apart =
     let now : KernelState = record b.kernel { time = advanced b.kernel.time } in
     let ids : List ℕ = due_from (advanced b.kernel.time) 0 in
-    let new : KernelState = all_timed_out now ids in
+    let over : KernelState = all_timed_out now ids in
+    let new : KernelState = prioritized over in
     either-stays (Works at) (nat_lt b.kernel.time.count last_count) _ _
-    (dispatched-works new.tasks 0 at new.processors ∙ ap is_handling (same-elsewhere at new now (same-timed now ids)) ∙ apart.steady) apart.steady
+    (dispatched-works new.tasks 0 at new.processors
+    ∙ ap is_handling (same-elsewhere at new over (same-prioritized over) ∙ same-elsewhere at over now (same-timed now ids))
+    ∙ apart.steady) apart.steady
 on-steady b (Raise line) (agents.Task id) off apart =
     ap not (either-stays (RestsIn id) (is_some (line_at b.kernel line).handler) _ _ (rests-so b.kernel id apart.steady) (rests-so b.kernel id apart.steady))
 on-steady b (Raise line) (agents.Handler at) off apart =

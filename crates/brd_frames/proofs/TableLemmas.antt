@@ -146,6 +146,10 @@ t-released f t id answer second None at = refl
 t-released f t id answer second (Some task) at =
     t-released-to f t id answer second task (released task.status) (λ to is. at (released-waits task.status to is))
 
+pub released-at-with : (f : Contexts) (t : TaskTable) (id answer : ℕ) (second : Option ℕ) → At f id →
+    released_with (t-with f t) id answer second ≡ t-with f (released_with t id answer second)
+released-at-with f t id answer second at = t-released f t id answer second (task_at t id) (λ waits. at)
+
 pub released-with : (f : Contexts) (t : TaskTable) (id answer : ℕ) (second : Option ℕ) → Unsteady f t →
     released_with (t-with f t) id answer second ≡ t-with f (released_with t id answer second)
 released-with f t id answer second free = t-released f t id answer second (task_at t id) (free id)
@@ -193,3 +197,62 @@ pub released-free : (f : Contexts) (t : TaskTable) (id answer : ℕ) (second : O
     Unsteady f (released_with t id answer second)
 released-free f t id answer second free =
     λ other is. free other (released-row-unsteady t id answer other second (task_at t id) is)
+
+-- What is noted of a task leaves what it waits for.
+
+row-unsteady : (rows : List (Option Task)) (id other : ℕ) (old new : Task) → slice_index_or rows id None ≡ Some old → new.status ≡ old.status →
+    is_waiting_task (slice_index_or (slice_set rows id (Some new)) other None) ≡ true →
+    is_waiting_task (slice_index_or rows other None) ≡ true
+row-unsteady [] id other old new there same is = is
+row-unsteady (x ∷ xs) zero zero old new there same is = ap is_waiting_task there ∙ ap is_waiting (sym same) ∙ is
+row-unsteady (x ∷ xs) zero (suc other) old new there same is = is
+row-unsteady (x ∷ xs) (suc id) zero old new there same is = is
+row-unsteady (x ∷ xs) (suc id) (suc other) old new there same is = row-unsteady xs id other old new there same is
+
+noted-row-free : (f : Contexts) (note : Task → Task) (t : TaskTable) (id : ℕ) (row : Option Task) → task_at t id ≡ row → Unsteady f t →
+    ((task : Task) → (note task).status ≡ task.status) → Unsteady f (where_there t row (λ task. patched t id (note task)))
+noted-row-free f note t id None there free keeps = free
+noted-row-free f note t id (Some task) there free keeps =
+    λ other is. free other (row-unsteady t.rows id other task (note task) there (keeps task) is)
+
+pub noted-free : (f : Contexts) (note : Task → Task) (t : TaskTable) (id : ℕ) → Unsteady f t →
+    ((task : Task) → (note task).status ≡ task.status) → Unsteady f (noted note t id)
+noted-free f note t id free keeps = noted-row-free f note t id (task_at t id) refl free keeps
+
+-- Whoever is released has the same start queued.
+
+abbrev pub queued_in : Option Task → Option Request
+queued_in None = None
+queued_in (Some task) = task.activation
+
+row-queued : (rows : List (Option Task)) (id other : ℕ) (old new : Task) → slice_index_or rows id None ≡ Some old →
+    new.activation ≡ old.activation → queued_in (slice_index_or (slice_set rows id (Some new)) other None) ≡ queued_in (slice_index_or rows other None)
+row-queued [] id other old new there same = refl
+row-queued (x ∷ xs) zero zero old new there same = same ∙ sym (ap queued_in there)
+row-queued (x ∷ xs) zero (suc other) old new there same = refl
+row-queued (x ∷ xs) (suc id) zero old new there same = refl
+row-queued (x ∷ xs) (suc id) (suc other) old new there same = row-queued xs id other old new there same
+
+to-queued : (t : TaskTable) (id answer other : ℕ) (second : Option ℕ) (task : Task) (to : Option Status) → task_at t id ≡ Some task →
+    queued_in (task_at (released_to t id answer second task to) other) ≡ queued_in (task_at t other)
+to-queued t id answer other second task None there = refl
+to-queued t id answer other second task (Some to) there = row-queued t.rows id other task (record task { status = to }) there refl
+
+released-row-queued : (t : TaskTable) (id answer other : ℕ) (second : Option ℕ) (row : Option Task) → task_at t id ≡ row →
+    queued_in (task_at (where_there t row (λ task. released_to t id answer second task (released task.status))) other) ≡ queued_in (task_at t other)
+released-row-queued t id answer other second None there = refl
+released-row-queued t id answer other second (Some task) there = to-queued t id answer other second task (released task.status) there
+
+pub released-queued : (t : TaskTable) (id answer other : ℕ) (second : Option ℕ) →
+    queued_in (task_at (released_with t id answer second) other) ≡ queued_in (task_at t other)
+released-queued t id answer other second = released-row-queued t id answer other second (task_at t id) refl
+
+queued-again : (f : Contexts) (id : ℕ) (row : Option Task) (request : Request) → queued_in row ≡ Some request →
+    ((task : Task) (request : Request) → row ≡ Some task → task.activation ≡ Some request → At f id) → At f id
+queued-again f id None request is again = let wrong : ⊥ = cc in absurd wrong
+queued-again f id (Some task) request is again = again task request refl is
+
+pub restarted-still : (f : Contexts) (t new : TaskTable) (id : ℕ) → queued_in (task_at new id) ≡ queued_in (task_at t id) → Restarted f t id →
+    Restarted f new id
+restarted-still f t new id same again = λ task request there queued.
+    queued-again f id (task_at t id) request (sym same ∙ ap queued_in there ∙ queued) again

@@ -1,6 +1,6 @@
 -- What leaves processors and spin locks as they are, and whether there is the profile: all that is about tasks, waits
 -- and objects.
-use Rattle.std.proofs.Common.{◌≡◌, ℕ, List, [], ◌∷◌, refl, ◌∙◌}
+use Rattle.std.proofs.Common.{◌≡◌, ℕ, List, [], ◌∷◌, refl, ap, ◌∙◌}
 use Rattle.std.specs.Prelude.{Bool, true, false, if◌then◌else◌, Option, None, Some}
 use Rattle.brd_tasks.specs.declared.status.WaitReason.{WaitReason}
 use Rattle.brd_tasks.specs.declared.status.WaitReason.TheVariants as reason
@@ -88,6 +88,9 @@ same-all_given k id =
 
 pub same-quits : (k : KernelState) (id : ℕ) → Same (quits_in k id) k
 same-quits k id = same-then (same-ended (all_given_in k id) id) (same-all_given k id)
+
+pub quits_processor : (k : KernelState) (id cpu : ℕ) → processor_at (quits_in k id) cpu ≡ processor_at k cpu
+quits_processor k id cpu = ap (λ processors. processor_at (record k { processors = processors }) cpu) (same-quits k id).processors
 
 pub same-prioritized : (k : KernelState) → Same (prioritized k) k
 same-prioritized k =

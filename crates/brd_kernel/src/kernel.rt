@@ -403,6 +403,7 @@ impl Kernel {
     }
 
     /// The same, before priorities are what they are to be.
+    #[tactic(auto, using(crate::proofs::SameLemmas::quits_processor))]
     fn fault(&mut self, cpu: u8)
         ensures { self.new ≡ faulted_in self.old cpu (processor_at self.old cpu) }
     {

@@ -10,7 +10,7 @@ use Rattle.brd_tasks.specs.declared.status.WaitReason.TheVariants as reason
 use Rattle.brd_tasks.specs.declared.task.Task.{Task}
 use Rattle.brd_tasks.specs.declared.task.Request.{Request}
 use Rattle.brd_tasks.specs.Status.{waiting_of, is_dormant, blocked, suspended, resumed, released}
-use Rattle.brd_tasks.specs.Tasks.{TaskTable, task_at, are_there, shown, where_there, activated, ended_by, ended, put_into, through, released_to, released_with, changed, with_priority, on_processor, noted, with_wakeup, without_activation}
+use Rattle.brd_tasks.specs.Tasks.{TaskTable, task_at, are_there, shown, where_there, activated, ended_by, ended, put_into, through, released_to, released_with, changed, on_processor, noted, with_wakeup, without_activation}
 use Rattle.brd_tasks.proofs.ThereLemmas.{there_set, there-is}
 use Rattle.brd_time.specs.Time.{Time, due_of, with_due, advanced, due_from}
 use Rattle.brd_objects.specs.declared.semaphore.Semaphore.{Semaphore}
@@ -22,13 +22,16 @@ use Rattle.brd_objects.specs.Table.{object_at, object_changed}
 use Rattle.brd_objects.specs.Semaphores.{returned, first_waiter}
 use Rattle.brd_objects.specs.Flags.{joined, all_released, with_all_released}
 use Rattle.brd_objects.specs.DataQueues.{DataQueueState, sent, outcome, forced, forced_outcome, received}
+use Rattle.brd_objects.specs.Mutexes.{given, next_owner_in}
 use Rattle.brd_kernel.specs.declared.processor.Processor.{Processor}
 use Rattle.brd_kernel.specs.declared.processor.Executor.{Executor}
 use Rattle.brd_kernel.specs.declared.processor.Executor.TheVariants as executor
 use Rattle.brd_kernel.specs.Answer.{e_ok}
 use Rattle.brd_kernel.specs.Kernel.{KernelState, with_tasks, with_processor, processor_at, with_context_of, handles}
-use Rattle.brd_kernel.specs.Waits.{can_wait, with_wait, released_in, reason_of, unlisted, broken_off, ended_in, answer_by, timed_out, all_timed_out, faulted_task, faulted_in, shown_until}
-use Rattle.brd_kernel.specs.Services.{with_released, with_all_released_in, with_satisfied_of, handed_over, with_priority_in, unmarked_on, caller_on}
+use Rattle.brd_kernel.specs.Waits.{can_wait, with_wait, released_in, reason_of, unlisted, broken_off, ended_in, answer_by, timed_out, all_timed_out, faulted_task, faulted_in, shown_until, with_released, given_in, all_given_in, quits_in, prioritized}
+use Rattle.brd_kernel.specs.Services.{with_all_released_in, with_satisfied_of, handed_over, unmarked_on, caller_on}
+use Rattle.brd_kernel.proofs.PricedLemmas.{priced, priced_in}
+use Rattle.brd_kernel.proofs.SettledLemmas.{Settles, all-given, all-prioritized}
 use Rattle.brd_kernel.proofs.WaitLemmas.{unlisted-only, reordered-only}
 use Rattle.brd_kernel.proofs.WalkLemmas.{Anything, Law, lacked, awaiting, serve-always}
 use Rattle.brd_board.specs.declared.event.Event.{Event}
@@ -118,12 +121,6 @@ timed-has them k [] has = has
 timed-has them k (id ∷ ids) has =
     timed-has them (timed_out k id) ids (broken-has them k id (answer_by (reason_of k id)) has)
 
-prioritized-has : (them : List Bool) (k : KernelState) (id priority : ℕ) (why : Option WaitReason) → Has them k →
-    Has them (with_priority_in k id priority why)
-prioritized-has them k id priority why has =
-    let new : KernelState = with_tasks k (changed (with_priority priority) k.tasks id) in
-    ap are_there (reordered-only new id priority why).tasks ∙ changed-keeps (with_priority priority) k.tasks id ∙ has
-
 begun-has : (them : List Bool) (can : Bool) (k entered : KernelState) (t : TaskTable) (time : Time) → KeepsThem k.tasks t → Has them k →
     Has them (if can then record entered { tasks = t; time = time } else k)
 begun-has them true k entered t time keeps has = keeps ∙ has
@@ -138,6 +135,28 @@ wait-has them k id why due entered has =
 released-if-has : (them : List Bool) (k : KernelState) (first : Option ℕ) → Has them k → Has them (with_released k first)
 released-if-has them k None has = has
 released-if-has them k (Some id) has = released-has them k id e_ok None has
+
+given-has : (them : List Bool) (k : KernelState) (at : ℕ) → Has them k → Has them (given_in k at)
+given-has them k at has =
+    released-if-has them (record k { mutexes = object_changed given k.mutexes at }) (next_owner_in (object_at k.mutexes at)) has
+
+priced-has : (them : List Bool) (k : KernelState) (base : Task → ℕ) (id priority : ℕ) (why : Option WaitReason) → Has them k →
+    Has them (priced_in k base id priority why)
+priced-has them k base id priority why has =
+    let new : KernelState = with_tasks k (changed (priced base priority) k.tasks id) in
+    ap are_there (reordered-only new id priority why).tasks ∙ changed-keeps (priced base priority) k.tasks id ∙ has
+
+has-settles : (them : List Bool) → Settles (Has them)
+has-settles them = record {
+  gives = λ k at m there has. given-has them k at has;
+  prices = λ k base id priority (task : Task) there has. priced-has them k base id priority (waiting_of task.status) has;
+}
+
+quits-has : (them : List Bool) (k : KernelState) (id : ℕ) → Has them k → Has them (quits_in k id)
+quits-has them k id has = ended-has them (all_given_in k id) id (all-given (Has them) k id (has-settles them) has)
+
+prioritized-has : (them : List Bool) (k : KernelState) → Has them k → Has them (prioritized k)
+prioritized-has them k has = all-prioritized (Has them) k (has-settles them) has
 
 all-released-has : (them : List Bool) (k : KernelState) (ids : List ℕ) (second : ℕ) → Has them k →
     Has them (with_all_released_in k ids second)
@@ -168,7 +187,7 @@ faulted-task-has : (them : List Bool) (k : KernelState) (cpu : ℕ) (p : Process
     Has them (faulted_task k cpu p running)
 faulted-task-has them k cpu p None has = has
 faulted-task-has them k cpu p (Some id) has =
-    ended-has them (with_tasks k (noted without_activation k.tasks id)) id (noted-keeps without_activation k.tasks id ∙ has)
+    quits-has them (with_tasks k (noted without_activation k.tasks id)) id (noted-keeps without_activation k.tasks id ∙ has)
 
 either-has : (them : List Bool) (test : Bool) (one other : KernelState) → Has them one → Has them other →
     Has them (if test then one else other)
@@ -194,9 +213,9 @@ call-law them k cpu has =
       cancels = λ id. noted-keeps without_activation k.tasks id ∙ has;
       wakes = λ id task there awake. noted-keeps (with_wakeup true) k.tasks id ∙ has;
       unwakes = λ id. noted-keeps (with_wakeup false) k.tasks id ∙ has;
-      exits = λ may. unmarked-has them (ended_in k caller) cpu (processor_at k cpu) (ended-has them k caller has);
-      ends = λ id task there held other. ended-has them k id has;
-      prioritizes = λ id priority (task : Task) there. prioritized-has them k id priority (waiting_of task.status) has;
+      exits = λ may. unmarked-has them (quits_in k caller) cpu (processor_at k cpu) (quits-has them k caller has);
+      ends = λ id task there held other. quits-has them k id has;
+      prioritizes = λ base id priority (task : Task) there. priced-has them k base id priority (waiting_of task.status) has;
       migrates = λ id to task there held absent may. changed-keeps (on_processor to) k.tasks id ∙ has;
       suspends = λ id task there held may. through-keeps suspended k.tasks id ∙ has;
       resumes = λ id. through-keeps resumed k.tasks id ∙ has;
@@ -220,6 +239,8 @@ call-law them k cpu has =
           handed-has them (record k { queues = object_changed (forced datum) k.queues id }) datum (forced_outcome q) has;
       receives = λ id q (it : Received) there is.
           released-if-has them (record k { queues = object_changed received k.queues id }) it.sender has;
+      locks = λ id m there. has;
+      gives = λ id m there. given-has them k id has;
       awaits = λ id due lacks may. wait-has them k caller (reason.On (lacked lacks) id) due (awaiting k caller id lacks) has;
       writes = λ word. has;
       ends_all = has;
@@ -231,16 +252,19 @@ calls-keep them k cpu = record {
   quiet = λ now has. has;
   goes_on = λ now who s has. context-has them now cpu who s has;
   replies = λ now who s has. context-has them now cpu who s has;
-  serves = λ now p c same there may has. serve-always (Has them) now cpu (call-law them now cpu has) c;
+  serves = λ now p c same there may has. serve-always (Has them) now cpu (call-law them now cpu has) (prioritized-has them) c;
 }
 
 them-kept : (them : List Bool) → Kept (Has them) (Has them)
 them-kept them = record {
   context = context-has them;
   call = λ k cpu has. called-leaves k cpu (calls-keep them k cpu) has;
-  fault = λ k cpu p there on has. faulted-has them k cpu (processor_at k cpu) has;
+  fault = λ k cpu p there on has. prioritized-has them (faulted_in k cpu (processor_at k cpu)) (faulted-has them k cpu (processor_at k cpu) has);
   accept = λ k cpu line has. handles-has them k cpu line (processor_at k cpu) has;
-  tick = λ k has. timed-has them (record k { time = advanced k.time }) (due_from (advanced k.time) 0) has;
+  tick = λ k has.
+      let now : KernelState = record k { time = advanced k.time } in
+      let ids : List ℕ = due_from (advanced k.time) 0 in
+      prioritized-has them (all_timed_out now ids) (timed-has them now ids has);
   raise = λ k line has. has;
   dispatch = λ k has. has;
 }

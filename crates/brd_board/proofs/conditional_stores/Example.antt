@@ -36,6 +36,7 @@ kernel = record {
   semaphores = [];
   flags = [];
   queues = [];
+  mutexes = [];
   spin_locks = [];
   processors = None ∷ Some (record idle { running = Some 1 }) ∷ Some (record idle { running = Some 2 }) ∷ [];
   handler_contexts = [];

@@ -1,6 +1,6 @@
 //! Mutexes: the service calls, each as its row of the table says, and the priorities that tasks have by them.
 
-ghost use Rattle.std.specs.Prelude.{◌≡◌, ◌<◌, length};
+ghost use Rattle.std.specs.Prelude.{◌≡◌, ◌<◌, ◌&&◌, length};
 ghost use Rattle.brd_tasks.specs.Tasks.{task_at};
 ghost use Rattle.brd_objects.specs.Table.{object_at};
 ghost use Rattle.brd_kernel.specs.Row.{Serves, served};
@@ -144,9 +144,18 @@ impl Kernel {
     {
         let mut over = false;
         for at in 0..256u16 {
-            over = over || (self.has_mutex(id, at) && self.is_over_mutex(priority, at));
+            let here = self.is_over_at(id, priority, at);
+            over = over || here;
         }
         over
+    }
+
+    /// Whether a task has the mutex of an ID, and a priority is higher than its ceiling.
+    fn is_over_at(&self, id: TaskId, priority: u8, at: u16) -> bool
+        ensures { result
+            ≡ (has_mutex_in id (object_at self.now.mutexes at) && is_over_mutex priority (object_at self.now.mutexes at)) }
+    {
+        self.has_mutex(id, at) && self.is_over_mutex(priority, at)
     }
 
     /// Whether a priority is higher than the ceiling of the mutex of an ID, if that has an effect.

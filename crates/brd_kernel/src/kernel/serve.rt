@@ -141,6 +141,7 @@ impl Kernel {
         Ok(Reply::Answer(0, None))
     }
 
+    #[tactic(auto, using(crate::proofs::SameLemmas::quits_processor))]
     fn ext_tsk(&mut self, cpu: u8, caller: TaskId) -> Result<Reply, Ercd>
         requires { caller < 256 }
         ensures { Serves self.old self.new result (served (table.ext_tsk self.old cpu caller)) }

@@ -139,6 +139,11 @@ const PROFILE_NUMBERS: &[(u32, Places, Named)] = &[
     (74, TASKS, ("ref_sem", [11, 22, 0, 0])),
     (75, TASKS, ("ref_flg", [11, 22, 0, 0])),
     (76, TASKS, ("ref_dtq", [11, 22, 0, 0])),
+    (77, WAITS, ("tloc_mtx", [11, FOREVER, 0, 0])),
+    (78, TASKS, ("tloc_mtx", [11, 0, 0, 0])),
+    (79, WAITS, ("tloc_mtx", [11, 22, 0, 0])),
+    (80, TASKS, ("unl_mtx", [11, 0, 0, 0])),
+    (81, TASKS, ("ref_mtx", [11, 22, 0, 0])),
     (112, HANDLERS, ("get_pid", [0, 0, 0, 0])),
 ];
 
@@ -205,6 +210,9 @@ fn name_of(call: Call) -> &'static str {
         Call::RefSem(_, _) => "ref_sem",
         Call::RefFlg(_, _) => "ref_flg",
         Call::RefDtq(_, _) => "ref_dtq",
+        Call::TlocMtx(_, _) => "tloc_mtx",
+        Call::UnlMtx(_) => "unl_mtx",
+        Call::RefMtx(_, _) => "ref_mtx",
     }
 }
 
@@ -232,6 +240,7 @@ fn arguments_of(call: Call) -> [u32; 4] {
         | Call::UnlSpn(first)
         | Call::SetTim(first)
         | Call::MgetTid(first)
+        | Call::UnlMtx(first)
         | Call::PutChr(first) => [first, 0, 0, 0],
         Call::ChgPri(first, second)
         | Call::MactTsk(first, second)
@@ -246,6 +255,8 @@ fn arguments_of(call: Call) -> [u32; 4] {
         | Call::RefSem(first, second)
         | Call::RefFlg(first, second)
         | Call::RefDtq(first, second)
+        | Call::TlocMtx(first, second)
+        | Call::RefMtx(first, second)
         | Call::TrcvDtq(first, second) => [first, second, 0, 0],
         Call::TsndDtq(first, second, third) => [first, second, third, 0],
         Call::TwaiFlg(first, second, third, fourth) => [first, second, third, fourth],
@@ -293,7 +304,7 @@ const NO_NUMBERS: &[u32] = &[
     47,
     59,
     63,
-    77,
+    82,
     99,
     115,
     0x101,
