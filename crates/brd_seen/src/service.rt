@@ -131,7 +131,8 @@ fn second_of(call: Call) -> Shown {
         | Call::MgetTid(_)
         | Call::RefTsk(..)
         | Call::RefSem(..)
-        | Call::RefDtq(..) => Shown::Number,
+        | Call::RefDtq(..)
+        | Call::RefMtx(..) => Shown::Number,
         Call::TwaiFlg(..) | Call::TrcvDtq(..) | Call::RefFlg(..) => Shown::Bits,
         _ => Shown::Nothing,
     }
