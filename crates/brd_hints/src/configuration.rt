@@ -251,7 +251,12 @@ fn unknown_statement(standard: bool, word: &[u8]) -> Finding<'_> {
 
 /// What is said of a word that begins no statement, with the profile or without.
 fn no_statement(standard: bool, word: &[u8]) -> Finding<'_> {
-    let words = if standard { WORDS_OF_THE_PROFILE } else { WORDS };
-    Finding::at(&[], b"this kernel hasn't ~ (^)", word)
-        .with_other(advice(OTHERS, word).unwrap_or(words))
+    let words = if standard {
+        WORDS_OF_THE_PROFILE
+    } else {
+        WORDS
+    };
+    Finding::at(&[], b"this kernel hasn't ~ (^)", word).with_other(advice(OTHERS, word).unwrap_or(
+        words,
+    ))
 }

@@ -31,7 +31,7 @@ returns c =
       text = text;
       is_it = subst (λ (off : Bool). MatchBool off (text ≡ [])
           ((found : List Wait) × IsCircularWait units board found
-            × (text ≡ circle_text (lock_units units board) found)))
+          × (text ≡ circle_text (lock_units units board) found)))
           (sym c.if-is_off.false ∙ c.is_off.ensures) (found, c.in_ok-found.ensures, refl);
       behind = c.in_ok-put_waits.ensures
           ∙ ap (λ (us : List Unit). c.args.out.now.items ++ circle_text us c.as_slice-2.result.now)
