@@ -2,8 +2,8 @@
 """All schedules of a board within bounds, by the model: whether one of them fails, and how many there are if none does.
 
   tests/model/explore.py IMAGE CONFIG [--events N] [--preemptions P] [--ticks T] [--raises R|F..R --lines 3,4]
-      [--fair ROUNDS] [--exception] [--deadlock] [--ends] [--word count=2,inside=0..1] [--console TEXT] [--shortest]
-      [--shard K/M] [--out JOURNAL] [--board PROGRAM]
+      [--fair ROUNDS] [--exception] [--deadlock] [--ends] [--word count=2,inside=0..1] [--console TEXT]
+      [--never in1+in2>1] [--shortest] [--shard K/M] [--out JOURNAL] [--board PROGRAM]
 
 IMAGE is an object file, or a source, which PROGRAM (build/board) assembles; the options are those of `board explore`.
 It ends with status 5 if a schedule fails, and prints how many preemptions and events it has, and what fails.
@@ -24,6 +24,7 @@ mind, the first. Nobody sleeps on the trunk or where a branch leaves it, and wit
 """
 import argparse
 import collections
+import operator
 import os
 import pickle
 import re
@@ -52,8 +53,11 @@ NOT_LOCAL = set("""ADD SUB ADDI SYSCALL BREAK TGE TGEU TLT TLTU TEQ TNE TGEI TGE
     LB LH LWL LW LBU LHU LWR LL SB SH SWL SW SWR SC""".split())
 Image = collections.namedtuple("Image", "order segments symbols")
 # What is looked for beside words: the failures' names, the console's text or None, and (address, least, most) of words
-# at the end and of words always.
-Wanted = collections.namedtuple("Wanted", "names console last always rounds")
+# at the end and of words always; and the conditions that are never to hold, each its text, its comparison, and the terms
+# of both of its sums: numbers, and the addresses of words, alone in a tuple.
+Wanted = collections.namedtuple("Wanted", "names console last always rounds never", defaults=((),))
+COMPARISONS = {"<": operator.lt, "<=": operator.le, ">": operator.gt, ">=": operator.ge, "==": operator.eq,
+               "!=": operator.ne}
 
 
 class Uncounted:
@@ -127,6 +131,18 @@ class Explored(Board):
         return next((f"the word at {address:08x} is {word}" for address, word, least, most in found
                      if word is None or not least <= word <= most), None)
 
+    def sum_of(self, terms):
+        values = [it if isinstance(it, int) else self.word(*it) for it in terms]
+        return None if None in values else sum(values)
+
+    def holding(self, conditions):
+        """The first of some conditions that holds, or one of whose words isn't there; or nothing."""
+        for text, compares, *sums in conditions:
+            left, right = map(self.sum_of, sums)
+            if left is None or right is None or compares(left, right):
+                return text
+        return None
+
     def fault_by_now(self, wanted):
         """What a board shows at whatever point of a schedule, or nothing."""
         if "exception" in wanted.names and self.has_fault:
@@ -135,7 +151,7 @@ class Explored(Board):
             return "a deadlock"
         if wanted.console is not None and not wanted.console.startswith(self.console):
             return "another console"
-        return self.fault_of(wanted.always)
+        return self.fault_of(wanted.always) or self.holding(wanted.never)
 
     def fault_at_last(self, wanted):
         """What a last board of a schedule shows, or nothing."""
@@ -371,6 +387,16 @@ def setup_of(text, image):
     return Setup(processors, ram, image.order, image.segments, tasks, *kinds.values(), lines, standard, mutexes)
 
 
+def never_of(text, symbols):
+    found = []
+    for it in filter(None, (text or "").split(",")):
+        left, sign, right = re.fullmatch(r"([^<>=!]*)([<>]=?|==|!=)([^<>=!]*)", it).groups()
+        terms = [[term.strip() for term in side.split("+")] for side in (left, right)]
+        sums = [[int(term, 0) if term[0].isdigit() else (symbols[term],) for term in side] for side in terms]
+        found.append((it, COMPARISONS[sign], *sums))
+    return found
+
+
 def wanted_of(words, symbols):
     names = [it for it, is_wanted in (("exception", words.exception), ("deadlock", words.deadlock), ("on", words.ends))
              if is_wanted]
@@ -380,9 +406,10 @@ def wanted_of(words, symbols):
         least, _, most = value.partition("..")
         (always if most else last).append((address, int(least, 0), int(most or least, 0)))
     console = words.console and re.sub(r"\\(n|t|\\|x..)", unescaped, words.console).encode("latin-1")
-    if not (names or last or always or words.console is not None):
+    never = never_of(words.never, symbols)
+    if not (names or last or always or never or words.console is not None):
         names = ["exception", "deadlock"]
-    return Wanted(names, b"" if words.console == "" else console, last, always, words.fair)
+    return Wanted(names, b"" if words.console == "" else console, last, always, words.fair, never)
 
 
 def unescaped(found):
@@ -401,7 +428,7 @@ def words_of_command():
         parser.add_argument(f"--{name}", type=int, default=number)
     for name in ("exception", "deadlock", "ends", "shortest"):
         parser.add_argument(f"--{name}", action="store_true")
-    for name in ("lines", "word", "console", "out"):
+    for name in ("lines", "word", "console", "never", "out"):
         parser.add_argument(f"--{name}")
     parser.add_argument("--raises", default="0")
     parser.add_argument("--shard", default="1/1")

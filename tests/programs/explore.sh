@@ -285,6 +285,20 @@ verdict "explore: a word that isn't there" "$(is_found $?)"
 explores "$image" $examples/lost_update.cfg --word count=0..2,0x80000000=1..2 --out "$work/found"
 got=$?
 verdict "explore: what fails at once" "$([ $got = 5 ] || echo "status $got")$([ "$(events "$work/found")" = 0 ] || echo "; $(events "$work/found") events")"
+assembled readers.s
+explores "$image" $examples/readers.cfg --never 'x == y + 1 , 1+writer +writer+ readers >= 0x4' --events 50 --preemptions 2 --shortest
+wrong=$(is_found $?)
+grep -qE '^fails after .* events: x == y \+ 1, as 1 == 0 \+ 1$' "$work/out" || wrong="$wrong; it says $(head -n 1 "$work/out")"
+verdict "explore: a condition that holds" "$wrong"
+explores "$image" $examples/readers.cfg --never 'writer + writer + readers > 2' --events 50 --preemptions 2 --shortest
+wrong=$(is_found $?)
+grep -qE '^fails after 13 events: writer \+ writer \+ readers > 2, as 1 \+ 1 \+ 1 > 2$' "$work/out" ||
+    wrong="$wrong; it says $(head -n 1 "$work/out")"
+verdict "explore: a condition of several words" "$wrong"
+explores "$image" $examples/readers.cfg --never '4294967295 + 1 <= x' --events 20
+wrong=$(is_none 126 "at most 20 events, 1 preemption, 0 ticks and 0 raises" $? 0)
+[ "$(sed -n 2p "$work/out")" = "looked for: 4294967295 + 1 <= x" ] || wrong="$wrong; it looks for $(sed -n 2p "$work/out")"
+verdict "explore: a condition that never holds" "$wrong"
 assembled handoff_right.s
 explores "$image" $examples/handoff.cfg --console '\x41\x42' --events 40
 verdict "explore: a console by its bytes" "$([ $? = 0 ] || head -c 300 "$work/out" "$work/err")"
@@ -390,6 +404,12 @@ for wrong in count count= count=1.. count=..1 count=1.2 'count=1,' ',count=1' co
     refuses "$word" --word "$wrong"
 done
 refuses "--word names a symbol that the object file doesn't have" --word nothing=1
+never="--never has conditions with commas between them, as in1 + in2 > 1: sums of numbers and of words at symbols of the object file, with <, <=, >, >=, == or != between them"
+for wrong in '' count 'count <' '< 2' 'count = 2' 'count => 2' 'count ! 2' 'count < < 2' 'count < 1 < 2' 'count + < 2' \
+    '+ count < 2' 'count 1 < 2' 'count - 1 < 2' 'count < -1' 'count < 4294967296' 'count < 0x' 'nothing < 1' \
+    'count < 2,' ',count < 2' 'count < 2 count < 3'; do
+    refuses "$never" --never "$wrong"
+done
 refuses "--events is a number from 0 to 1,000,000" --events 1000001
 refuses "--fair is a number of rounds from 0 to 20,000" --fair 20001
 for option in "--fair 1" "--remember 1" "--shard 1/1" --shortest; do

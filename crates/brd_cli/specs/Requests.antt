@@ -138,6 +138,7 @@ AreLooks rows looks = IsFlag (one_of (codes "exception") rows) looks.exception
     × (option_map (λ text. text.now) looks.words ≡ first_of (codes "WORDS") rows)
     × (option_map (λ text. text.now) looks.console ≡ first_of (codes "TEXT") rows)
     × (option_map (λ text. text.now) looks.reach ≡ first_of (codes "LABELS") rows)
+    × (option_map (λ text. text.now) looks.never ≡ first_of (codes "SUMS") rows)
 
 -- the options of `explore`, each as it was given
 abbrev pub AreSearchOptions : List Row → SearchOptions → Type 0

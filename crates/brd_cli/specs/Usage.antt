@@ -128,7 +128,8 @@ abbrev pub checks : List Rule
 checks =
     flag (codes "exception") ∷ flag (codes "deadlock") ∷ flag (codes "ends")
     ∷ option (codes "WORDS") (codes "word") ∷ option (codes "TEXT") (codes "console")
-    ∷ option (codes "LABELS") (codes "reach") ∷ count (codes "ROUNDS") (codes "fair") ∷ []
+    ∷ option (codes "LABELS") (codes "reach") ∷ option (codes "SUMS") (codes "never")
+    ∷ count (codes "ROUNDS") (codes "fair") ∷ []
 
 abbrev pub searching : List Rule
 searching =

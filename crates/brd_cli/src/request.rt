@@ -331,6 +331,7 @@ fn looks_of<'a>(arguments: &ArgMatches<'a>) -> Looks<'a>
         words: text_of(arguments, "WORDS"),
         console: text_of(arguments, "TEXT"),
         reach: text_of(arguments, "LABELS"),
+        never: text_of(arguments, "SUMS"),
     }
 }
 

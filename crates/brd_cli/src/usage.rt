@@ -523,6 +523,12 @@ fn with_checks<'a>(alloc: Global, command: Command<'a>) -> Result<Command<'a>, N
             "reach",
             "Fails where a processor comes to the instruction at a label, as lost,0x80000010",
         ))?
+        .arg(option(
+            alloc,
+            "SUMS",
+            "never",
+            "Fails where sums of words and numbers compare so at any time, as inside1+inside2>1",
+        ))?
         .arg(count(
             alloc,
             "ROUNDS",

@@ -14,6 +14,11 @@ use Rattle.brd_board.specs.declared.event.Event.TheVariants.{Step}
 use Rattle.brd_board.specs.Board.{BoardState, after, fault_of, registers_of, task_of}
 use Rattle.brd_explore.specs.Schedules.{does}
 use Rattle.brd_explore.specs.declared.bounds.Bounds.{Bounds}
+use Rattle.brd_explore.specs.declared.condition.Term.{Term}
+use Rattle.brd_explore.specs.declared.condition.Term.TheVariants as term
+use Rattle.brd_explore.specs.declared.condition.Comparison.{Comparison}
+use Rattle.brd_explore.specs.declared.condition.Comparison.TheVariants.{Less, AtMost, More, AtLeast, Same, Other}
+use Rattle.brd_explore.specs.declared.condition.Condition.{Condition}
 use Rattle.brd_explore.specs.declared.wanted.Failure.{Failure}
 use Rattle.brd_explore.specs.declared.wanted.Failure.TheVariants as failure
 use Rattle.brd_explore.specs.declared.wanted.Wanted.{Wanted}
@@ -70,6 +75,41 @@ abbrev pub is_between : ℕ → ℕ → Option ℕ → Bool
 is_between least most None = false
 is_between least most (Some word) = nat_le least word && nat_le word most
 
+-- what a term is worth: a number, or the word at an address, where RAM has it
+abbrev pub worth : BoardState → Term → Option ℕ
+worth b (term.Number number) = Some number
+worth b (term.Word address) = word_of b address
+
+-- the sum of two numbers, where both are there
+abbrev pub plus : Option ℕ → Option ℕ → Option ℕ
+plus None other = None
+plus (Some one) None = None
+plus (Some one) (Some other) = Some (one + other)
+
+-- the sum of terms, where all of their words are there
+abbrev pub sum_of : BoardState → List Term → Option ℕ
+sum_of b [] = Some 0
+sum_of b (one ∷ others) = plus (worth b one) (sum_of b others)
+
+-- how two numbers compare
+abbrev pub compares : Comparison → ℕ → ℕ → Bool
+compares Less left right = nat_lt left right
+compares AtMost left right = nat_le left right
+compares More left right = nat_lt right left
+compares AtLeast left right = nat_le right left
+compares Same left right = left == right
+compares Other left right = not (left == right)
+
+-- two sums compare so, or one of them isn't there
+abbrev pub is_so : Comparison → Option ℕ → Option ℕ → Bool
+is_so order None right = true
+is_so order (Some left) None = true
+is_so order (Some left) (Some right) = compares order left right
+
+-- A condition holds on a board: its sums, of natural numbers, compare as it says; or one of its words isn't there.
+unfoldable pub holds : BoardState → Condition → Bool
+holds b condition = is_so condition.order (sum_of b condition.left) (sum_of b condition.right)
+
 -- the instruction at an address is the next one in a context
 abbrev pub is_at : ℕ → Option State → Bool
 is_at address None = false
@@ -86,6 +126,7 @@ fails_by_now b failure.Deadlock = is_stuck b
 fails_by_now b (failure.Console text) = not (begins_with text b.kernel.console)
 fails_by_now b (failure.Word address value) = false
 fails_by_now b (failure.Outside address least most) = not (is_between least most (word_of b address))
+fails_by_now b (failure.Holds condition) = holds b condition
 fails_by_now b failure.On = false
 fails_by_now b failure.Ended = false
 fails_by_now b (failure.Unlisted texts) = false
@@ -99,6 +140,7 @@ fails_at_last b failure.Deadlock = false
 fails_at_last b (failure.Console text) = not (begins_with b.kernel.console text)
 fails_at_last b (failure.Word address value) = not (is_value value (word_of b address))
 fails_at_last b (failure.Outside address least most) = false
+fails_at_last b (failure.Holds condition) = false
 fails_at_last b failure.On = not b.kernel.off
 fails_at_last b failure.Ended = true
 fails_at_last b (failure.Unlisted texts) = not (list_any (bytes_eq b.kernel.console) texts)

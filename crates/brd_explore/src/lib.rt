@@ -3,6 +3,7 @@
 
 mod asleep;
 mod bounds;
+mod condition;
 mod known;
 pub mod laws;
 mod search;
@@ -11,6 +12,7 @@ mod shrinking;
 mod wanted;
 
 pub use bounds::{Bounds, did_nothing};
+pub use condition::{Comparison, Condition, Term};
 pub use search::{Counts, Found, Nobody, Watch, find};
 pub use shard::{Shard, find_in_shard};
 pub use shrinking::{fails, shrink};

@@ -35,6 +35,7 @@ ghost use Rattle.brd_explore.specs.Shrinking.{fails_after};
 
 use crate::asleep::executes;
 use crate::bounds::{Bounds, did_nothing};
+use crate::condition::Condition;
 use brd_base::{List, NoMemory};
 use brd_board::{Board, Event, TaskId};
 use brd_exec::Context;
@@ -66,6 +67,8 @@ pub enum Failure {
         /// The most that it may be.
         most: u32,
     },
+    /// A condition holds, or one of its words isn't there.
+    Holds(Condition),
     /// At the end the board is on.
     On,
     /// There is an end.
@@ -266,6 +269,7 @@ impl Failure {
                 least,
                 most,
             } => Ok(!is_between(*least, *most, word_at(board, *address))),
+            Failure::Holds(condition) => Ok(condition.holds(board)),
             Failure::At { address } => Ok(some_are_at(board, *address)),
             Failure::Word { .. } | Failure::On => Ok(false),
             Failure::Ended | Failure::Unlisted(_) => Ok(false),
@@ -279,7 +283,7 @@ impl Failure {
     {
         match self {
             Failure::Exception | Failure::Deadlock => false,
-            Failure::Outside { .. } | Failure::At { .. } => false,
+            Failure::Outside { .. } | Failure::Holds(_) | Failure::At { .. } => false,
             Failure::Console(text) => !board.console().starts_with(text.as_slice()),
             Failure::Word { address, value } => !is_value(*value, word_at(board, *address)),
             Failure::On => !board.is_off(),
@@ -468,7 +472,7 @@ fn somebody_goes(board: &mut Board) -> bool
 
 /// The word at an address, where RAM has its four bytes.
 #[tactic(auto, unfolding(crate::specs::Failures::word_of))]
-fn word_at(board: &Board, address: u32) -> Option<u32>
+pub(crate) fn word_at(board: &Board, address: u32) -> Option<u32>
     ensures { result ≡ word_of board.now address }
 {
     let bytes = [

@@ -25,6 +25,9 @@ use Rattle.brd_board.specs.declared.event.Report.TheVariants as report
 use Rattle.brd_board.specs.Board.{BoardState, Happened, reported, with_executed, instruction_done, executes_in, accepts_or_executes, stepped_in, happens_on, happens, task_of}
 use Rattle.brd_journal.specs.Still.{did_nothing}
 use Rattle.brd_explore.specs.declared.bounds.Bounds.{Bounds}
+use Rattle.brd_explore.specs.declared.condition.Condition.{Condition}
+use Rattle.brd_explore.specs.declared.condition.Term.{Term}
+use Rattle.brd_explore.specs.declared.condition.Term.TheVariants as term
 use Rattle.brd_explore.specs.declared.wanted.Failure.{Failure}
 use Rattle.brd_explore.specs.declared.wanted.Failure.TheVariants as failure
 use Rattle.brd_explore.specs.declared.wanted.Wanted.{Wanted}
@@ -37,7 +40,8 @@ use Rattle.brd_frames.specs.Lagging.{Sharing, IsInvisible, Lags}
 use Rattle.brd_frames.proofs.DeedLemmas.{get-bytes}
 use Rattle.brd_frames.proofs.FootprintLemmas.{PutsAt, put-keeps, put-length, stores-touches}
 use Rattle.brd_frames.proofs.LagLemmas.{Leads, leads, leads-kernel}
-use Rattle.brd_reach.specs.Reaching.{IsSharedWord, IsGuarded, Guards}
+use Rattle.brd_explore.specs.Failures.{worth, plus, sum_of, is_so, holds}
+use Rattle.brd_reach.specs.Reaching.{IsSharedTerm, IsSharedWord, IsGuarded, Guards}
 
 -- Whether a step does something is a matter of the kernel, but for contexts.
 
@@ -240,6 +244,22 @@ word-alike by b c address it shared = λ i.
     word_in (it.order i) (it.bytes address shared.first i) (it.bytes ((address + 1) % 2 ^ 32) shared.second i)
     (it.bytes ((address + 2) % 2 ^ 32) shared.third i) (it.bytes ((address + 3) % 2 ^ 32) shared.fourth i)
 
+worth-alike : (by : Sharing) (b c : BoardState) (t : Term) → Alike by b c → IsSharedTerm by t → worth c t ≡ worth b t
+worth-alike by b c (term.Number number) it shared = refl
+worth-alike by b c (term.Word address) it shared = word-alike by b c address it shared
+
+sum-alike : (by : Sharing) (b c : BoardState) (ts : List Term) → Alike by b c → All (IsSharedTerm by) ts → sum_of c ts ≡ sum_of b ts
+sum-alike by b c [] it shared = refl
+sum-alike by b c (t ∷ ts) it shared = λ i.
+    plus (worth-alike by b c t it (All-head (IsSharedTerm by) t ts shared) i)
+    (sum-alike by b c ts it (All-tail (IsSharedTerm by) t ts shared) i)
+
+holds-alike : (by : Sharing) (b c : BoardState) (condition : Condition) → Alike by b c → IsGuarded by (failure.Holds condition) →
+    holds c condition ≡ holds b condition
+unfolding holds
+holds-alike by b c condition it shared = λ i.
+    is_so condition.order (sum-alike by b c condition.left it shared.left i) (sum-alike by b c condition.right it shared.right i)
+
 now-alike : (by : Sharing) (b c : BoardState) (f : Failure) → Alike by b c → IsGuarded by f → fails_by_now c f ≡ fails_by_now b f
 unfolding fails_by_now
 now-alike by b c failure.Exception it guarded = ap (λ faults. some_below 9 (λ cpu. is_some (slice_index_or faults cpu None))) it.faults
@@ -248,6 +268,7 @@ now-alike by b c (failure.Console text) it guarded = ap (λ console. not (begins
 now-alike by b c (failure.Word address value) it guarded = refl
 now-alike by b c (failure.Outside address least most) it guarded =
     ap (λ word. not (is_between least most word)) (word-alike by b c address it guarded)
+now-alike by b c (failure.Holds condition) it guarded = holds-alike by b c condition it guarded
 now-alike by b c failure.On it guarded = refl
 now-alike by b c failure.Ended it guarded = refl
 now-alike by b c (failure.Unlisted texts) it guarded = refl
@@ -261,6 +282,7 @@ last-alike by b c (failure.Console text) it guarded = ap (λ console. not (begin
 last-alike by b c (failure.Word address value) it guarded =
     ap (λ word. not (is_value value word)) (word-alike by b c address it guarded)
 last-alike by b c (failure.Outside address least most) it guarded = refl
+last-alike by b c (failure.Holds condition) it guarded = refl
 last-alike by b c (failure.At address) it guarded = refl
 last-alike by b c failure.On it guarded = ap not it.off
 last-alike by b c failure.Ended it guarded = refl

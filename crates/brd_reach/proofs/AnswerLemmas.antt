@@ -6,6 +6,8 @@ use Rattle.std.specs.List.{All}
 use Rattle.brd_board.specs.declared.event.Event.{Event}
 use Rattle.brd_board.specs.Board.{BoardState}
 use Rattle.brd_explore.specs.declared.bounds.Bounds.{Bounds}
+use Rattle.brd_explore.specs.declared.condition.Term.{Term}
+use Rattle.brd_explore.specs.declared.condition.Term.TheVariants as term
 use Rattle.brd_explore.specs.declared.wanted.Failure.{Failure}
 use Rattle.brd_explore.specs.declared.wanted.Failure.TheVariants as failure
 use Rattle.brd_explore.specs.declared.wanted.Wanted.{Wanted}
@@ -25,7 +27,7 @@ use Rattle.brd_places.specs.Places.{Place}
 use Rattle.brd_reach.specs.Rounds.{AreDone, IsMore}
 use Rattle.brd_reach.proofs.ReachLemmas.{none-fails}
 use Rattle.brd_reach.proofs.RoundLemmas.{closed, get-more, IsGoodPlace}
-use Rattle.brd_reach.specs.Reaching.{Guards, IsGuarded, IsSharedWord, bounds_of, fails_there}
+use Rattle.brd_reach.specs.Reaching.{Guards, IsGuarded, IsSharedTerm, IsSharedWord, bounds_of, fails_there}
 
 word-stays : (old new : Sharing) (address : ℕ) → StaysShared old new → IsSharedWord old address → IsSharedWord new address
 word-stays old new address stays it = record {
@@ -35,12 +37,21 @@ word-stays old new address stays it = record {
   fourth = stays ((address + 3) % 2 ^ 32) it.fourth;
 }
 
+term-stays : (old new : Sharing) (t : Term) → StaysShared old new → IsSharedTerm old t → IsSharedTerm new t
+term-stays old new (term.Number number) stays it = tt
+term-stays old new (term.Word address) stays it = word-stays old new address stays it
+
+pub terms-stay : (old new : Sharing) (ts : List Term) → StaysShared old new → All (IsSharedTerm old) ts → All (IsSharedTerm new) ts
+terms-stay old new ts stays all = λ k d less. term-stays old new (get_or ts k d) stays (all k d less)
+
 pub guarded-stays : (old new : Sharing) (it : Failure) → StaysShared old new → IsGuarded old it → IsGuarded new it
 guarded-stays old new failure.Exception stays it = tt
 guarded-stays old new failure.Deadlock stays it = tt
 guarded-stays old new (failure.Console text) stays it = tt
 guarded-stays old new (failure.Word address value) stays it = word-stays old new address stays it
 guarded-stays old new (failure.Outside address least most) stays it = word-stays old new address stays it
+guarded-stays old new (failure.Holds condition) stays it =
+    record { left = terms-stay old new condition.left stays it.left; right = terms-stay old new condition.right stays it.right }
 guarded-stays old new failure.On stays it = tt
 guarded-stays old new failure.Ended stays it = tt
 guarded-stays old new (failure.Unlisted texts) stays it = tt
@@ -94,13 +105,25 @@ fails-so wanted place b none fails is =
 less-or-same : (n m : ℕ) → n < m + 1 → (n < m) ⊎ (n ≡ m)
 less-or-same n m less = grind (arith, less)
 
+next : {X : Type 0} (P Q : X → Type 0) (xs : List X) (i : ℕ) (it : X) → ((x : X) → P x → Q x) →
+    ((k : ℕ) (d : X) → k < i → P (get_or xs k d)) → Q it → it ≡ get_or xs i it → i < length xs →
+    (k : ℕ) (d : X) → k < i + 1 → Q (get_or xs k d)
+next P Q xs i it keeps before here is within k d less =
+    elim (less-or-same k i less) [
+      | inl below ↦ keeps (get_or xs k d) (before k d below)
+      | inr same ↦ subst (λ n. Q (get_or xs n d)) (sym same) (subst Q (is ∙ get_or_default xs i it d within) here)
+    ]
+
 pub guard-next : (old new : List Owner) (failures : List Failure) (i : ℕ) (it : Failure) →
     ((k : ℕ) (d : Failure) → k < i → IsGuarded (sharing_of old) (get_or failures k d)) → StayShared old new → IsGuarded (sharing_of new) it →
     it ≡ get_or failures i it → i < length failures → (k : ℕ) (d : Failure) → k < i + 1 → IsGuarded (sharing_of new) (get_or failures k d)
-guard-next old new failures i it before stays here is within k d less =
-    elim (less-or-same k i less) [
-      | inl below ↦ guarded-stays (sharing_of old) (sharing_of new) (get_or failures k d) stays (before k d below)
-      | inr same ↦
-          subst (λ n. IsGuarded (sharing_of new) (get_or failures n d)) (sym same)
-          (subst (IsGuarded (sharing_of new)) (is ∙ get_or_default failures i it d within) here)
-    ]
+guard-next old new failures i it before stays here is within =
+    next (IsGuarded (sharing_of old)) (IsGuarded (sharing_of new)) failures i it
+    (λ x. guarded-stays (sharing_of old) (sharing_of new) x stays) before here is within
+
+pub term-next : (old new : List Owner) (terms : List Term) (i : ℕ) (it : Term) →
+    ((k : ℕ) (d : Term) → k < i → IsSharedTerm (sharing_of old) (get_or terms k d)) → StayShared old new → IsSharedTerm (sharing_of new) it →
+    it ≡ get_or terms i it → i < length terms → (k : ℕ) (d : Term) → k < i + 1 → IsSharedTerm (sharing_of new) (get_or terms k d)
+term-next old new terms i it before stays here is within =
+    next (IsSharedTerm (sharing_of old)) (IsSharedTerm (sharing_of new)) terms i it
+    (λ x. term-stays (sharing_of old) (sharing_of new) x stays) before here is within

@@ -6,6 +6,9 @@ use Rattle.brd_board.specs.declared.event.Event.TheVariants.{Step, Tick, Raise}
 use Rattle.brd_link.specs.LinkSet.{IsLinkSet}
 use Rattle.brd_board.specs.Board.{BoardState, after}
 use Rattle.brd_explore.specs.declared.bounds.Bounds.{Bounds}
+use Rattle.brd_explore.specs.declared.condition.Condition.{Condition}
+use Rattle.brd_explore.specs.declared.condition.Term.{Term}
+use Rattle.brd_explore.specs.declared.condition.Term.TheVariants as term
 use Rattle.brd_explore.specs.declared.wanted.Failure.{Failure}
 use Rattle.brd_explore.specs.declared.wanted.Failure.TheVariants as failure
 use Rattle.brd_explore.specs.declared.wanted.Wanted.{Wanted}
@@ -51,6 +54,20 @@ pub record IsSharedWord (by : Sharing) (address : ℕ) : Type 0 where
   pub third : by.shared ((address + 2) % 2 ^ 32) ≡ true
   pub fourth : by.shared ((address + 3) % 2 ^ 32) ≡ true
 
+-- the word that a term watches is shared
+abbrev pub IsSharedTerm : Sharing → Term → Type 0
+IsSharedTerm by (term.Number number) = Unit {0}
+IsSharedTerm by (term.Word address) = IsSharedWord by address
+
+-- the words that terms watch are
+abbrev pub AreSharedTerms : Sharing → List Term → Type 0
+AreSharedTerms by terms = All (IsSharedTerm by) terms
+
+-- the words that a condition watches are, in both of its sums
+pub record IsSharedCondition (by : Sharing) (condition : Condition) : Type 0 where
+  pub left : AreSharedTerms by condition.left
+  pub right : AreSharedTerms by condition.right
+
 -- what a failure watches of memory is shared; of instructions, which nobody else sees, it watches none
 abbrev pub IsGuarded : Sharing → Failure → Type 0
 IsGuarded by failure.Exception = Unit {0}
@@ -58,6 +75,7 @@ IsGuarded by failure.Deadlock = Unit {0}
 IsGuarded by (failure.Console text) = Unit {0}
 IsGuarded by (failure.Word address value) = IsSharedWord by address
 IsGuarded by (failure.Outside address least most) = IsSharedWord by address
+IsGuarded by (failure.Holds condition) = IsSharedCondition by condition
 IsGuarded by failure.On = Unit {0}
 IsGuarded by failure.Ended = Unit {0}
 IsGuarded by (failure.Unlisted texts) = Unit {0}

@@ -2,7 +2,8 @@
 
 ghost use Rattle.std.specs.Prelude.{◌≡◌, IfOk, IfSome, List as ListOf, true};
 ghost use Rattle.brd_blocks.specs.Owning.{StayShared, sharing_of};
-ghost use Rattle.brd_reach.specs.Reaching.{Guards, IsGuarded, IsSharedWord, ReachedSo};
+ghost use Rattle.brd_reach.specs.Reaching.{AreSharedTerms, Guards, IsGuarded, IsSharedCondition, IsSharedTerm};
+ghost use Rattle.brd_reach.specs.Reaching.{IsSharedWord, ReachedSo};
 
 use crate::held::{Held, what_holds};
 use crate::round::{Round, visit_all};
@@ -11,7 +12,7 @@ use crate::ways::Ways;
 use brd_base::{BASE, List, NoMemory};
 use brd_blocks::{Owner, Sharing};
 use brd_board::{Board, Event};
-use brd_explore::{Failure, Wanted};
+use brd_explore::{Condition, Failure, Term, Wanted};
 use brd_places::{Left, Places};
 use std::alloc::Global;
 
@@ -115,9 +116,42 @@ fn guard(sharing: &mut Sharing, failure: &Failure) -> bool
             guard_word(sharing, *address);
             true
         }
+        Failure::Holds(condition) => {
+            guard_condition(sharing, condition);
+            true
+        }
         Failure::Exception | Failure::Deadlock | Failure::Console(_) => true,
         Failure::On | Failure::Ended | Failure::Unlisted(_) => true,
         Failure::At { .. } => false,
+    }
+}
+
+/// All may touch the words of a condition, from now on.
+fn guard_condition(sharing: &mut Sharing, condition: &Condition)
+    ensures stays { StayShared sharing.old sharing.new }
+    ensures guarded { IsSharedCondition (sharing_of sharing.new) condition.now }
+{
+    guard_terms(sharing, condition.left.as_slice());
+    guard_terms(sharing, condition.right.as_slice());
+}
+
+/// All may touch the words of terms, from now on.
+fn guard_terms(sharing: &mut Sharing, terms: &[Term])
+    ensures stays { StayShared sharing.old sharing.new }
+    ensures guarded { AreSharedTerms (sharing_of sharing.new) terms.now }
+{
+    for term in terms {
+        guard_term(sharing, *term);
+    }
+}
+
+/// All may touch the word of a term, from now on.
+fn guard_term(sharing: &mut Sharing, term: Term)
+    ensures stays { StayShared sharing.old sharing.new }
+    ensures guarded { IsSharedTerm (sharing_of sharing.new) term }
+{
+    if let Term::Word(address) = term {
+        guard_word(sharing, address);
     }
 }
 

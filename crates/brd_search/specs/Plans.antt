@@ -1,9 +1,9 @@
 -- Which search options ask for, and what may be wrong with them.
 use Rattle.std.specs.Prelude.{◌≡◌, ℕ, zero, suc, ◌-◌, ◌<◌, ◌≤◌, nat_lt, ◌==◌, Bool, true, false, not}
 use Rattle.std.specs.Prelude.{◌&&◌, ◌||◌, if◌then◌else◌, List, [], ◌∷◌, ◌++◌, length, Option, None, Some, is_some}
-use Rattle.std.specs.Prelude.{option_map, Result, Ok, Err}
+use Rattle.std.specs.Prelude.{option_and_then, option_map, Result, Ok, Err}
 use Rattle.std.specs.Borrow.{Bor}
-use Rattle.std.specs.List.{list_any, position_or_len, before_first, after_first}
+use Rattle.std.specs.List.{list_any, position_or_len, before_first, after_first, slice_split, take, drop}
 use Rattle.brd_text.specs.Bytes.{is_digit}
 use Rattle.brd_text.specs.Faults.{◌>>=◌, or_fault}
 use Rattle.brd_text.specs.Numbers.{number_of, plain_decimal_of}
@@ -16,13 +16,18 @@ use Rattle.brd_board.specs.Board.{BoardState}
 use Rattle.brd_explore.specs.Schedules.{does}
 use Rattle.brd_explore.specs.declared.bounds.Bounds.{Bounds}
 use Rattle.brd_explore.specs.declared.shard.Shard as part
+use Rattle.brd_explore.specs.declared.condition.Comparison.{Comparison}
+use Rattle.brd_explore.specs.declared.condition.Comparison.TheVariants.{Less, AtMost, More, AtLeast, Same, Other}
+use Rattle.brd_explore.specs.declared.condition.Condition.{Condition}
+use Rattle.brd_explore.specs.declared.condition.Term.{Term}
+use Rattle.brd_explore.specs.declared.condition.Term.TheVariants as term
 use Rattle.brd_explore.specs.declared.wanted.Failure.{Failure}
 use Rattle.brd_explore.specs.declared.wanted.Failure.TheVariants as failure
 use Rattle.brd_explore.specs.declared.wanted.Wanted.{Wanted}
 use Rattle.brd_search.specs.Escapes.{bytes_of}
 use Rattle.brd_search.specs.declared.fault.SearchFault.{SearchFault}
 use Rattle.brd_search.specs.declared.fault.SearchFault.TheVariants.{NoMemory, Events, Fair, Remember, Lines, NoLines}
-use Rattle.brd_search.specs.declared.fault.SearchFault.TheVariants.{Twice, NoHandler, Ends, Places, Reach}
+use Rattle.brd_search.specs.declared.fault.SearchFault.TheVariants.{Twice, NoHandler, Ends, Places, Reach, Never}
 use Rattle.brd_search.specs.declared.fault.SearchFault.TheVariants.{Word, NoSymbol, Console, Shard, Raises as BadRaises}
 use Rattle.brd_search.specs.declared.raises.Raises.{Raises}
 use Rattle.brd_search.specs.declared.options.Looks.{Looks}
@@ -232,11 +237,105 @@ abbrev pub reaches_of : List Symbol → Option (List ℕ) → Result (List Failu
 reaches_of symbols None = Ok []
 reaches_of symbols (Some text) = each_of (reach_of symbols) (pieces_of text)
 
+-- ---- conditions that are never to hold
+
+-- a text without the blanks before it
+abbrev pub behind_blanks : List ℕ → List ℕ
+behind_blanks [] = []
+behind_blanks (b ∷ bs) = if b == 32 then behind_blanks bs else b ∷ bs
+
+-- there is nothing but blanks in a text
+abbrev pub is_blank : List ℕ → Bool
+is_blank text = length (behind_blanks text) == 0
+
+-- what stands before the first blank of a text that begins with none, if nothing but blanks is behind it
+abbrev pub word_by : List ℕ → Option (List ℕ × List ℕ) → Option (List ℕ)
+word_by text None = Some text
+word_by text (Some parts) = if is_blank parts.1 then Some parts.0 else None
+
+-- the word in a text, unless there are more; blanks stand between words
+abbrev pub word_in : List ℕ → Option (List ℕ)
+word_in text = word_by (behind_blanks text) (parts_of 32 (behind_blanks text))
+
+-- the term that a word stands for: a number where it begins with a digit, else what is at the symbol of that name
+abbrev pub term_by : List Symbol → List ℕ → Option Term
+term_by symbols word =
+    if length word == 0 then None
+    else (if begins_with_digit word then option_map (λ number. term.Number number) (number_of word)
+    else option_map (λ address. term.Word address) (symbol_value symbols word))
+
+-- the term that the word in a text stands for
+abbrev pub term_of : List Symbol → List ℕ → Result Term SearchFault
+term_of symbols text = or_fault Never (option_and_then (term_by symbols) (word_in text))
+
+-- what stands between the plus signs of a text
+abbrev pub summands_of : List ℕ → List (List ℕ)
+summands_of text = slice_split (λ b. b == 43) text
+
+-- the terms of a sum
+abbrev pub sum_of : List Symbol → List ℕ → Result (List Term) SearchFault
+sum_of symbols text = each_of (term_of symbols) (summands_of text)
+
+-- a byte may begin a comparison: <, >, = or !
+abbrev pub is_mark : ℕ → Bool
+is_mark b = (b == 60) || (b == 62) || (b == 61) || (b == 33)
+
+-- a comparison that has an equals sign here, and what is behind it
+abbrev pub with_equals : Comparison → List ℕ → Option (Comparison × List ℕ)
+with_equals one [] = None
+with_equals one (b ∷ bs) = if b == 61 then Some (one, bs) else None
+
+-- a comparison, or the other one where an equals sign follows; and what is behind it
+abbrev pub either_by : Comparison → List ℕ → Option (Comparison × List ℕ) → Comparison × List ℕ
+either_by one text None = (one, text)
+either_by one text (Some compared) = compared
+
+abbrev pub either : Comparison → Comparison → List ℕ → Comparison × List ℕ
+either one other text = either_by one text (with_equals other text)
+
+-- the comparison that a byte begins, and what is behind it
+abbrev pub compared_by : ℕ → List ℕ → Option (Comparison × List ℕ)
+compared_by b bs =
+    if b == 60 then Some (either Less AtMost bs)
+    else (if b == 62 then Some (either More AtLeast bs)
+    else (if b == 61 then with_equals Same bs
+    else (if b == 33 then with_equals Other bs
+    else None)))
+
+-- the comparison with which a text begins, and what is behind it: <, <=, >, >=, == or !=
+abbrev pub comparison_at : List ℕ → Option (Comparison × List ℕ)
+comparison_at [] = None
+comparison_at (b ∷ bs) = compared_by b bs
+
+-- the condition of a first sum, and of a comparison with what is behind it, a second sum
+abbrev pub condition_by : List Symbol → List ℕ → Option (Comparison × List ℕ) → Result Condition SearchFault
+condition_by symbols text None = Err Never
+condition_by symbols text (Some compared) =
+    sum_of symbols text >>= (λ left. sum_of symbols compared.1 >>= (λ right.
+    Ok (record { left = left; order = compared.0; right = right })))
+
+-- the condition that a text says, which is cut before the first byte that may begin a comparison
+unfoldable pub condition_of : List Symbol → List ℕ → Result Condition SearchFault
+condition_of symbols text =
+    condition_by symbols (take (position_or_len is_mark text) text)
+    (comparison_at (drop (position_or_len is_mark text) text))
+
+-- the failure that a condition of `--never` looks for
+abbrev pub never_of : List Symbol → List ℕ → Result Failure SearchFault
+never_of symbols text = condition_of symbols text >>= (λ condition. Ok (failure.Holds condition))
+
+-- the failures that `--never` looks for, each by a piece of its text
+abbrev pub nevers_of : List Symbol → Option (List ℕ) → Result (List Failure) SearchFault
+nevers_of symbols None = Ok []
+nevers_of symbols (Some text) = each_of (never_of symbols) (pieces_of text)
+
+-- ---- all that is looked for
+
 -- the options don't say what is looked for
 abbrev pub says_nothing : Looks → Bool
 says_nothing looks =
     not (looks.exception || looks.deadlock || looks.on || is_some looks.words || is_some looks.console
-    || is_some looks.reach)
+    || is_some looks.reach || is_some looks.never)
 
 -- a failure, where it is looked for
 abbrev pub where_so : Bool → Failure → List Failure
@@ -258,7 +357,9 @@ pub record AreLooked (looks : Looks) (symbols : List Symbol) (failures : List Fa
   pub is_console : consoles_of (text_of looks.console) ≡ Some console
   pub reaches : List Failure
   pub are_reaches : reaches_of symbols (text_of looks.reach) ≡ Ok reaches
-  pub all : failures ≡ kinds_of looks ++ words ++ console ++ reaches
+  pub nevers : List Failure
+  pub are_nevers : nevers_of symbols (text_of looks.never) ≡ Ok nevers
+  pub all : failures ≡ kinds_of looks ++ words ++ console ++ reaches ++ nevers
 
 -- what is looked for, and the fair end: so many rounds, and at most 20,000
 pub record IsWanted (looks : Looks) (fair cpus : ℕ) (symbols : List Symbol) (wanted : Wanted) : Type 0 where
@@ -275,6 +376,7 @@ KeepsFromWanting looks fair symbols Word = goals_of symbols (text_of looks.words
 KeepsFromWanting looks fair symbols NoSymbol = goals_of symbols (text_of looks.words) ≡ Err NoSymbol
 KeepsFromWanting looks fair symbols Console = consoles_of (text_of looks.console) ≡ None
 KeepsFromWanting looks fair symbols Reach = reaches_of symbols (text_of looks.reach) ≡ Err Reach
+KeepsFromWanting looks fair symbols Never = nevers_of symbols (text_of looks.never) ≡ Err Never
 KeepsFromWanting looks fair symbols _ = ⊥
 
 -- ---- the plan
@@ -434,6 +536,34 @@ IsOfReaches symbols places NoMemory = Unit {0}
 IsOfReaches symbols places Reach = reaches_of symbols places ≡ Err Reach
 IsOfReaches symbols places _ = ⊥
 
+-- the fault of a term of `--never`
+abbrev pub IsOfTerm : SearchFault → Type 0
+IsOfTerm Never = Unit {0}
+IsOfTerm _ = ⊥
+
+-- the fault of a sum
+abbrev pub IsOfSum : List Symbol → List ℕ → SearchFault → Type 0
+IsOfSum symbols text NoMemory = Unit {0}
+IsOfSum symbols text Never = sum_of symbols text ≡ Err Never
+IsOfSum symbols text _ = ⊥
+
+-- the fault of a condition
+abbrev pub IsOfCondition : List Symbol → List ℕ → SearchFault → Type 0
+IsOfCondition symbols text NoMemory = Unit {0}
+IsOfCondition symbols text Never = condition_of symbols text ≡ Err Never
+IsOfCondition symbols text _ = ⊥
+
+-- the fault of `--never`
+abbrev pub IsOfConditions : List Symbol → Option (List ℕ) → SearchFault → Type 0
+IsOfConditions symbols conditions NoMemory = Unit {0}
+IsOfConditions symbols conditions Never = nevers_of symbols conditions ≡ Err Never
+IsOfConditions symbols conditions _ = ⊥
+
+-- the summands behind a summand: those of the text behind its plus sign, and none where none ends it
+abbrev pub summands_behind : Option (List ℕ) → List (List ℕ)
+summands_behind None = []
+summands_behind (Some text) = summands_of text
+
 -- the fault of `--lines`
 abbrev pub IsOfRaises : ℕ → Option (List ℕ) → SearchFault → Type 0
 IsOfRaises most lines NoMemory = Unit {0}
@@ -460,6 +590,7 @@ IsOfLooks looks symbols Word = goals_of symbols (text_of looks.words) ≡ Err Wo
 IsOfLooks looks symbols NoSymbol = goals_of symbols (text_of looks.words) ≡ Err NoSymbol
 IsOfLooks looks symbols Console = consoles_of (text_of looks.console) ≡ None
 IsOfLooks looks symbols Reach = reaches_of symbols (text_of looks.reach) ≡ Err Reach
+IsOfLooks looks symbols Never = nevers_of symbols (text_of looks.never) ≡ Err Never
 IsOfLooks looks symbols _ = ⊥
 
 -- the wanted console stands behind what was there before

@@ -50,6 +50,10 @@ pub enum SearchFault {
     #[error("--reach has places of instructions with commas between them, each a symbol of the object file, or 0x and a \
          hexadecimal address")]
     Reach,
+    /// A condition isn't one.
+    #[error("--never has conditions with commas between them, as in1 + in2 > 1: sums of numbers and of words at symbols \
+         of the object file, with <, <=, >, >=, == or != between them")]
+    Never,
     /// A journal that is made shorter has more events than it may have.
     #[error("the journal has more than 1,000,000 events")]
     Journal,

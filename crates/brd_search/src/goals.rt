@@ -187,7 +187,7 @@ fn address_of(place: &[u8], symbols: &[Symbol]) -> Result<u32, SearchFault>
 }
 
 /// Whether a text begins with a digit.
-fn begins_with_digit(text: &[u8]) -> bool
+pub(crate) fn begins_with_digit(text: &[u8]) -> bool
     ensures { result ≡ plans.begins_with_digit text.now }
 {
     match text.first() {

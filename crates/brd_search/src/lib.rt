@@ -5,6 +5,7 @@
 #![tactic(auto)]
 
 mod coming;
+mod conditions;
 mod console;
 mod fault;
 mod goals;

@@ -29,6 +29,8 @@ pub struct Looks<'a> {
     pub console: Option<&'a str>,
     /// Who comes to an instruction at one of these places, as `lost,0x80000010`.
     pub reach: Option<&'a str>,
+    /// Conditions that hold, as `inside1 + inside2 > 1`.
+    pub never: Option<&'a str>,
 }
 
 /// The options of a search.

@@ -5,7 +5,7 @@ use crate::plan::Plan;
 use crate::shown::stops;
 use brd_base::NoMemory;
 use brd_board::{Board, Event};
-use brd_explore::{Bounds, Counts, Failure, Wanted};
+use brd_explore::{Bounds, Comparison, Condition, Counts, Failure, Term, Wanted};
 use brd_isa::decode;
 use brd_listing::{write_instruction, write_place};
 use brd_mem::Symbol;
@@ -262,6 +262,7 @@ fn put_kind(
             put(out, " that isn't ")?;
             put_range(alloc, *least, *most, out)
         }
+        Failure::Holds(condition) => put_condition(alloc, symbols, None, condition, out),
         Failure::At { address } => {
             put(out, "a processor at ")?;
             write_place(symbols, *address, out)
@@ -415,12 +416,79 @@ pub fn put_failure(
             put(out, ", not ")?;
             put_range(alloc, *least, *most, out)
         }
+        Failure::Holds(condition) => {
+            put_condition(alloc, symbols, None, condition, out)?;
+            put(out, ", as ")?;
+            put_condition(alloc, symbols, Some(board), condition, out)
+        }
         Failure::At { address } => {
             put(out, "processor ")?;
             put_number(alloc, out, u64::from(first_at(board, *address)))?;
             put(out, " is at ")?;
             write_place(symbols, *address, out)
         }
+    }
+}
+
+/// Puts at the end a condition; on a board, each word is what it is there.
+fn put_condition(
+    alloc: Global,
+    symbols: &[Symbol],
+    board: Option<&Board>,
+    condition: &Condition,
+    out: &mut Vec<u8>,
+) -> Result<(), NoMemory> {
+    put_sum(alloc, symbols, board, condition.left.as_slice(), out)?;
+    put(out, sign(condition.order))?;
+    put_sum(alloc, symbols, board, condition.right.as_slice(), out)
+}
+
+/// The sign of a comparison, with blanks around it.
+fn sign(order: Comparison) -> &'static str {
+    match order {
+        Comparison::Less => " < ",
+        Comparison::AtMost => " <= ",
+        Comparison::More => " > ",
+        Comparison::AtLeast => " >= ",
+        Comparison::Same => " == ",
+        Comparison::Other => " != ",
+    }
+}
+
+/// Puts at the end a sum; on a board, each word is what it is there.
+fn put_sum(
+    alloc: Global,
+    symbols: &[Symbol],
+    board: Option<&Board>,
+    terms: &[Term],
+    out: &mut Vec<u8>,
+) -> Result<(), NoMemory> {
+    let mut others = false;
+    for term in terms {
+        if others {
+            put(out, " + ")?;
+        }
+        put_term(alloc, symbols, board, *term, out)?;
+        others = true;
+    }
+    Ok(())
+}
+
+/// Puts at the end a term; on a board, a word is what it is there.
+fn put_term(
+    alloc: Global,
+    symbols: &[Symbol],
+    board: Option<&Board>,
+    term: Term,
+    out: &mut Vec<u8>,
+) -> Result<(), NoMemory> {
+    match (term, board) {
+        (Term::Number(number), _) => put_number(alloc, out, u64::from(number)),
+        (Term::Word(address), None) => write_place(symbols, address, out),
+        (Term::Word(address), Some(board)) => match word_at(board, address) {
+            Some(word) => put_number(alloc, out, u64::from(word)),
+            None => put(out, "a word that isn't there"),
+        },
     }
 }
 

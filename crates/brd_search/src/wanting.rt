@@ -5,6 +5,7 @@ ghost use Rattle.brd_search.specs.Plans.{AddsConsole, AreLooked, IsOfLooks, IsWa
 ghost use Rattle.brd_search.specs.Plans.{IsOfConsoles, says_nothing, text_of, where_so};
 
 use crate::coming::round;
+use crate::conditions::add_nevers;
 use crate::console::bytes_of;
 use crate::fault::SearchFault;
 use crate::goals::{add_reaches, add_words};
@@ -58,6 +59,7 @@ fn failures_of(
     add_words(&mut failures, looks.words, symbols)?;
     add_console(alloc, &mut failures, looks.console)?;
     add_reaches(&mut failures, looks.reach, symbols)?;
+    add_nevers(alloc, &mut failures, looks.never, symbols)?;
     Ok(failures)
 }
 
@@ -82,7 +84,8 @@ fn says_nothing(looks: &Looks<'_>) -> bool
         || looks.on
         || looks.words.is_some()
         || looks.console.is_some()
-        || looks.reach.is_some())
+        || looks.reach.is_some()
+        || looks.never.is_some())
 }
 
 /// Adds a failure where it is looked for.

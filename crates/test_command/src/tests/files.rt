@@ -150,6 +150,7 @@ const LOOKS: Looks<'static> = Looks {
     words: None,
     console: None,
     reach: None,
+    never: None,
 };
 
 /// The options of a search of schedules of one event.

@@ -1,9 +1,11 @@
 //! What searches are asked for by their options, and what may be wrong with these.
 
 use super::sources::{HANDLED, LOST_UPDATE, TWO};
+use brd_base::List;
 use brd_board::{Board, Event};
-use brd_explore::Failure;
+use brd_explore::{Comparison, Failure};
 use brd_image::build;
+use brd_mem::Symbol;
 use brd_search::{Looks, SearchFault, SearchOptions, Sizes, plan_of, shown_events, wanted_of};
 use std::alloc::Global;
 use std::test::Fail;
@@ -23,6 +25,7 @@ const LOOKS: Looks = Looks {
     words: None,
     console: None,
     reach: None,
+    never: None,
 };
 
 const OPTIONS: SearchOptions = SearchOptions {
@@ -218,6 +221,34 @@ const WORDS: &[(&str, SearchFault)] = &[
     ("count=1", SearchFault::NoSymbol),
 ];
 
+/// Texts of conditions, and of those that are ones the comparison and how many terms the sums have.
+const CONDITIONS: &[(&str, Option<(usize, Comparison, usize)>)] = &[
+    ("count<2", Some((1, Comparison::Less, 1))),
+    (" count <= 2 ", Some((1, Comparison::AtMost, 1))),
+    (
+        "count+ 1 >other + count+other",
+        Some((2, Comparison::More, 3)),
+    ),
+    ("0x10 >= 16", Some((1, Comparison::AtLeast, 1))),
+    ("count == 4294967295", Some((1, Comparison::Same, 1))),
+    ("0!=other", Some((1, Comparison::Other, 1))),
+    ("", None),
+    ("count", None),
+    ("count < ", None),
+    ("< 2", None),
+    ("count = 2", None),
+    ("count ! 2", None),
+    ("count =< 2", None),
+    ("count <> 2", None),
+    ("count < 1 < 2", None),
+    ("count + < 2", None),
+    ("count ++ count < 2", None),
+    ("count count < 2", None),
+    ("nothing < 2", None),
+    ("count < 4294967296", None),
+    ("count < 2,", None),
+];
+
 /// Texts of a console, and the bytes for which they stand.
 const CONSOLES: &[(&str, Option<&[u8]>)] = &[
     ("", Some(b"")),
@@ -298,6 +329,55 @@ fn first_wrong_console(alloc: Global) -> Option<usize> {
     None
 }
 
+/// Two symbols.
+fn symbols(alloc: Global) -> Option<List<Symbol>> {
+    let mut symbols = List::new(alloc);
+    for (name, value) in [("count", 0x8000_0000), ("other", 0x8000_0004)] {
+        let name = List::from_slice(alloc, name.as_bytes()).ok()?;
+        symbols.push(Symbol { name, value }).ok()?;
+    }
+    Some(symbols)
+}
+
+/// Whether a text says such a condition, or none.
+fn says(
+    alloc: Global,
+    text: &str,
+    symbols: &[Symbol],
+    condition: Option<(usize, Comparison, usize)>,
+) -> bool {
+    let looks = Looks {
+        never: Some(text),
+        ..LOOKS
+    };
+    match wanted_of(alloc, &looks, 0, 2, symbols) {
+        Ok(wanted) => {
+            match wanted.failures.as_slice() {
+                [Failure::Holds(it)] => {
+                    condition == Some((it.left.len(), it.order, it.right.len()))
+                }
+                _ => false,
+            }
+        }
+        Err(fault) => fault == SearchFault::Never && condition.is_none(),
+    }
+}
+
+/// The first row of conditions whose text says something else.
+fn first_wrong_condition(alloc: Global) -> Option<usize> {
+    let symbols = symbols(alloc);
+    let symbols = match &symbols {
+        Some(symbols) => symbols.as_slice(),
+        None => &[],
+    };
+    for (row, (text, condition)) in CONDITIONS.iter().enumerate() {
+        if !says(alloc, *text, symbols, *condition) {
+            return Some(row);
+        }
+    }
+    None
+}
+
 /// How many events a board shows what fails after, of none and a fair end of two rounds of 33 events.
 fn shown_after(alloc: Global, words: &str) -> Option<usize> {
     let board = build(alloc, LOST_UPDATE.as_bytes(), TWO.as_bytes()).ok()?;
@@ -359,6 +439,11 @@ fn words_have_faults(rt: HostRuntime) -> Result<(), Fail> {
 #[test]
 fn consoles_are_read(rt: HostRuntime) -> Result<(), Fail> {
     none_wrong(first_wrong_console(rt.alloc()))
+}
+
+#[test]
+fn conditions_are_read(rt: HostRuntime) -> Result<(), Fail> {
+    none_wrong(first_wrong_condition(rt.alloc()))
 }
 
 #[test]

@@ -30,6 +30,7 @@ const LOST: Looks = Looks {
     words: Some("0x80000000=2"),
     console: None,
     reach: None,
+    never: None,
 };
 
 const DEAD: Looks = Looks {
@@ -39,9 +40,52 @@ const DEAD: Looks = Looks {
     words: None,
     console: None,
     reach: None,
+    never: None,
+};
+
+const NEVER: Looks = Looks {
+    exception: false,
+    deadlock: false,
+    on: false,
+    words: None,
+    console: None,
+    reach: None,
+    never: Some("1 + 0x2 == 3, 4294967295 + 4294967295 < 4294967296"),
+};
+
+const UNSEEN: Looks = Looks {
+    exception: false,
+    deadlock: false,
+    on: false,
+    words: None,
+    console: None,
+    reach: None,
+    never: Some("1 + 2 != 3,4294967295 + 1 <= 0"),
 };
 
 const CASES: &[Case] = &[
+    Case {
+        source: LOST_UPDATE,
+        config: TWO,
+        events: 60,
+        preemptions: 2,
+        fair: 0,
+        looks: NEVER,
+        told: "after 0 events: 1 + 2 == 3, as 1 + 2 == 3
+",
+    },
+    Case {
+        source: REPAIRED,
+        config: TWO,
+        events: 60,
+        preemptions: 1,
+        fair: 0,
+        looks: UNSEEN,
+        told: "24 schedules fails: at most 60 events, 1 preemption, 0 ticks and 0 raises
+looked for: 1 + 2 != 3, 4294967295 + 1 <= 0
+24 came to an end, none was cut short
+",
+    },
     Case {
         source: LOST_UPDATE,
         config: TWO,

@@ -11,12 +11,15 @@ returns c =
     let with_4 = c.in_ok-arg-4.ensures.shape c.option.ensures.own ∙ ap₂ with_rule with_3 c.option.ensures.rule in
     let with_5 = c.in_ok-arg-5.ensures.shape c.option-2.ensures.own ∙ ap₂ with_rule with_4 c.option-2.ensures.rule in
     let with_6 = c.in_ok-arg-6.ensures.shape c.option-3.ensures.own ∙ ap₂ with_rule with_5 c.option-3.ensures.rule in
-    let with_7 = c.in_ok-command.ensures.shape c.count.ensures.own ∙ ap₂ with_rule with_6 c.count.ensures.rule in
+    let with_7 = c.in_ok-arg-7.ensures.shape c.option-4.ensures.own ∙ ap₂ with_rule with_6 c.option-4.ensures.rule in
+    let with_8 = c.in_ok-command.ensures.shape c.count.ensures.own ∙ ap₂ with_rule with_7 c.count.ensures.rule in
     record {
-      shape = with_7;
+      shape = with_8;
       globals = λ none_yet. rw (
         c.in_ok-command.ensures.globals,
         c.count.ensures.own,
+        c.in_ok-arg-7.ensures.globals,
+        c.option-4.ensures.own,
         c.in_ok-arg-6.ensures.globals,
         c.option-3.ensures.own,
         c.in_ok-arg-5.ensures.globals,
