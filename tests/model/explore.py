@@ -41,7 +41,7 @@ from machine import RAM_START, decode  # noqa: E402
 # How many steps each processor takes in a round of the fair end, before a tick passes.
 ROUND = 16
 ATTRIBUTES = {"TA_NULL": 0, "TA_HLNG": 0, "TA_ASM": 1, "TA_ACT": 2, "TA_TFIFO": 0, "TA_TPRI": 1, "TA_WSGL": 0,
-              "TA_WMUL": 2, "TA_CLR": 4}
+              "TA_WMUL": 2, "TA_CLR": 4, "TA_INHERIT": 2, "TA_CEILING": 3}
 Bounds = collections.namedtuple("Bounds", "events preemptions ticks raises owed")
 # Where a schedule is, beside its board: what is left of the bounds, whom a step of another processor preempts (0:
 # nobody), the path there (None, or a pair of the path before and an event), and who sleeps, if somebody does.
@@ -360,7 +360,8 @@ def setup_of(text, image):
 
     def value(word):
         return sum({values[it] if it in values else int(it, 0) for it in re.split(r"\s*\|\s*", word.strip())})
-    kinds, tasks, lines, cpu, standard = {"SEM": {}, "FLG": {}, "DTQ": {}, "SPN": {}}, [], {}, 1, False
+    kinds = {"SEM": {}, "FLG": {}, "DTQ": {}, "SPN": {}, "MTX": {}}
+    tasks, lines, cpu, standard = [], {}, 1, False
     for name, words, end in re.findall(r"(\w+)\s*\(([^;]*?)\)\s*(?=([;{]))|\}", text):
         words = [it.strip() for it in words.replace("{", " ").replace("}", " ").split(",")]
         if name == "PROFILE":
@@ -380,8 +381,10 @@ def setup_of(text, image):
         else:
             key, bits, *rest = [0 if it == "NULL" else value(it) for it in words]
             kinds[name[4:]][key] = {"SEM": (bool(bits & 1), *rest), "DTQ": (bool(bits & 1), *rest[:1]), "SPN": None,
-                                    "FLG": (bool(bits & 1), bool(bits & 2), bool(bits & 4), *rest)}[name[4:]]
-    return Setup(processors, ram, image.order, image.segments, tasks, *kinds.values(), lines, standard)
+                                    "FLG": (bool(bits & 1), bool(bits & 2), bool(bits & 4), *rest),
+                                    "MTX": (bits, *rest)}[name[4:]]
+    mutexes = kinds.pop("MTX")
+    return Setup(processors, ram, image.order, image.segments, tasks, *kinds.values(), lines, standard, mutexes)
 
 
 def never_of(text, symbols):

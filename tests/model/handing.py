@@ -22,8 +22,10 @@ WAYS = [
     ("rel_wai sus_tsk sus_tsk rsm_tsk rsm_tsk ter_tsk act_tsk tslp_tsk twai_sem", "irel_wai iact_tsk"),
     ("loc_cpu loc_cpu unl_cpu loc_spn try_spn", "iget_tid"),
     ("dis_dsp dis_dsp ena_dsp rot_rdq chg_pri", "irot_rdq"),
+    ("loc_mtx loc_mtx tloc_mtx ploc_mtx ext_tsk ter_tsk act_tsk", "iact_tsk"),
 ]
-ENDS = {"loc_cpu": "unl_cpu", "dis_dsp": "ena_dsp", "loc_spn": "unl_spn", "try_spn": "unl_spn"}
+ENDS = {"loc_cpu": "unl_cpu", "dis_dsp": "ena_dsp", "loc_spn": "unl_spn", "try_spn": "unl_spn", "loc_mtx": "unl_mtx",
+        "tloc_mtx": "unl_mtx", "ploc_mtx": "unl_mtx"}
 
 
 class Handing(Maker):
@@ -50,6 +52,8 @@ class Handing(Maker):
         capacities = (0,) if number == 3 else (1, 2, 2, 3) if number == 4 else (0, 1, 3)
         self.queues = {key: (self.often(.6), self.chance(*capacities)) for key in self.queues or [3]}
         self.spin_locks = self.spin_locks or [4]
+        if number == 10:
+            self.standard, self.mutexes = True, self.mutexes or {5: self.new_mutex()}
         self.words, self.step = self.chance(4, 12, 40, 100), self.chance(0, 16, 64, 64, 64)
         self.flag_words, self.sound, self.base = self.chance(1, 2, 4), self.chance(.3, .6, .9), self.chance(BASE, MOVING)
         if self.suspends:

@@ -428,6 +428,13 @@ impl Board {
         self.kernel.mutex_owner(id)
     }
 
+    /// Whether the configuration asks for the profile, PROFILE(STANDARD).
+    pub fn is_standard(&self) -> bool
+        ensures { result ≡ self.now.kernel.standard }
+    {
+        self.kernel.is_standard()
+    }
+
     /// Whether an interrupt is pending on a line: raised, and accepted by no processor since.
     pub fn is_pending(&self, line: u8) -> bool
         ensures { result ≡ (line_at self.now.kernel line).pending }

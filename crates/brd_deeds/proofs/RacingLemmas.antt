@@ -110,7 +110,7 @@ raise-none : (position : ℕ) (past : Past) (b : BoardState) (line : ℕ) → de
 raise-none position past b line =
     let before = before_of b (Raise line) in
     let h = happens b (Raise line) in
-    no-deeds position (happening_from before h.report h.board) h.board past refl (both-none (releases h.report) h.board)
+    no-deeds position (happening_from before h.report h.board) h.board past refl (both-none (releases b.kernel.standard h.report) h.board)
 
 -- nor do the same events after it that do nothing
 

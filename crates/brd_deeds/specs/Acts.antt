@@ -32,6 +32,16 @@ gives_unit doer id = releases_into doer thing.Semaphore id
 abbrev pub gets_unit : Doer → ℕ → Log → Log
 gets_unit doer id = acquires_from doer thing.Semaphore id
 
+-- A mutex. What the end of a task gives back releases nothing.
+
+-- unl_mtx
+abbrev pub gives_mutex_back : Doer → ℕ → Log → Log
+gives_mutex_back doer id = releases_into doer thing.Mutex id
+
+-- who takes it, at once or when its wait ends
+abbrev pub takes_mutex : Doer → ℕ → Log → Log
+takes_mutex doer id = acquires_from doer thing.Mutex id
+
 -- A bit of an event flag.
 
 abbrev pub has_bit : ℕ → ℕ → Bool

@@ -15,6 +15,7 @@ use Rattle.brd_deeds.specs.Past.{free, with_hold}
 use Rattle.brd_deeds.specs.Trails.{settled}
 use Rattle.brd_deeds.specs.Places.{sends, forces, receives, begins_to_wait, sends_at_last, receives_at_last}
 use Rattle.brd_deeds.specs.Acts.{gives_unit, gets_unit, sets_bits, gets_bits, locks_by_spin_lock, gives_spin_lock_back}
+use Rattle.brd_deeds.specs.Acts.{takes_mutex, gives_mutex_back}
 use Rattle.brd_deeds.specs.Acts.{locks_cpu, unlocks_cpu, releases_cpu, disables_dispatching, enables_dispatching}
 use Rattle.brd_deeds.specs.Acts.{asks_to_start, starts, takes_starts_back, wakes_up, takes_wake_up, lets_go_on, goes_on}
 use Rattle.brd_deeds.specs.Acts.{resumes, halts}
@@ -36,6 +37,8 @@ terminates doer task log = starts doer.stamp task (suspends doer task log)
 abbrev pub acts_done : Doer → Call → ℕ → BoardState → Log → Log
 acts_done doer (call.SigSem id) second after log = gives_unit doer id log
 acts_done doer (call.TwaiSem id timeout) second after log = gets_unit doer id log
+acts_done doer (call.TlocMtx id timeout) second after log = takes_mutex doer id log
+acts_done doer (call.UnlMtx id) second after log = gives_mutex_back doer id log
 acts_done doer (call.SetFlg id bits) second after log = sets_bits doer id bits log
 acts_done doer (call.TwaiFlg id bits mode timeout) second after log = gets_bits doer id bits second log
 acts_done doer (call.TsndDtq id datum timeout) second after log = sends doer id log
@@ -83,11 +86,13 @@ acts_done doer (call.RefTsk id word) second after log = log
 acts_done doer (call.RefSem id word) second after log = log
 acts_done doer (call.RefFlg id word) second after log = log
 acts_done doer (call.RefDtq id word) second after log = log
+acts_done doer (call.RefMtx id word) second after log = log
 
 -- The wait of a task ended with what it waited for: it was answered with E_OK and this second result, by a call of
 -- `caller`.
 abbrev pub acts_taken : Option ℕ → Doer → Call → ℕ → Log → Log
 acts_taken caller doer (call.TwaiSem id timeout) second log = gets_unit doer id log
+acts_taken caller doer (call.TlocMtx id timeout) second log = takes_mutex doer id log
 acts_taken caller doer (call.TwaiFlg id bits mode timeout) second log = gets_bits doer id bits second log
 acts_taken caller doer (call.TsndDtq id datum timeout) second log = sends_at_last caller doer id log
 acts_taken caller doer (call.TrcvDtq id timeout) second log = receives_at_last caller doer id log
@@ -136,6 +141,8 @@ acts_taken caller doer (call.RefTsk id word) second log = log
 acts_taken caller doer (call.RefSem id word) second log = log
 acts_taken caller doer (call.RefFlg id word) second log = log
 acts_taken caller doer (call.RefDtq id word) second log = log
+acts_taken caller doer (call.UnlMtx id) second log = log
+acts_taken caller doer (call.RefMtx id word) second log = log
 
 -- a call's caller waits
 abbrev pub acts_waiting : Doer → Call → Log → Log
@@ -150,7 +157,7 @@ acts_taken_back doer (call.CanWup id) log = takes_wake_up doer (named doer id) l
 acts_taken_back doer _ log = log
 
 -- A task ends: its processor is neither CPU-locked nor has dispatching disabled, but nothing is released by that, nor
--- into a spin lock that it holds. Where a start of it is queued it starts again.
+-- into a spin lock that it holds, nor into the mutexes that it gives back. Where a start of it is queued it starts again.
 abbrev pub ends : Doer → Log → Log
 ends doer log = starts doer.stamp doer.strand (with_hold doer.cpu free log)
 

@@ -4,7 +4,7 @@ use Rattle.std.specs.Prelude.{◌+◌, ◌*◌, ℕ}
 use Rattle.brd_deeds.specs.declared.thing.{ThingKind.ThingKind, Thing.Thing}
 use Rattle.brd_deeds.specs.declared.thing.ThingKind.TheVariants.{Semaphore, FlagBit, Datum, Room, Meeting, SpinLock}
 use Rattle.brd_deeds.specs.declared.thing.ThingKind.TheVariants.{Processor, Dispatching, Start, WakeUp, Going, Halt}
-use Rattle.brd_deeds.specs.declared.thing.ThingKind.TheVariants.{Word}
+use Rattle.brd_deeds.specs.declared.thing.ThingKind.TheVariants.{Word, Mutex}
 
 abbrev pub rank_of : ThingKind → ℕ
 rank_of Semaphore = 0
@@ -20,6 +20,7 @@ rank_of WakeUp = 9
 rank_of Going = 10
 rank_of Halt = 11
 rank_of Word = 12
+rank_of Mutex = 13
 
 abbrev pub number_of : Thing → ℕ
 number_of it = (rank_of it.kind * 65536 + it.part) * 4294967296 + it.id

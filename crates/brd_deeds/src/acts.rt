@@ -14,6 +14,7 @@ ghost use Rattle.brd_deeds.specs.Acts.{
   gets_bits,
   gets_datum,
   gets_unit,
+  gives_mutex_back,
   gives_spin_lock_back,
   gives_unit,
   goes_on,
@@ -36,6 +37,7 @@ ghost use Rattle.brd_deeds.specs.Acts.{
   sets_bits,
   starts,
   stores_releasing,
+  takes_mutex,
   takes_room,
   takes_spin_lock,
   takes_starts_back,
@@ -105,6 +107,20 @@ impl Log {
         ensures { OnOk result (self.new ≡ gets_unit doer id self.old) }
     {
         self.acquire(doer, ThingKind::Semaphore, id)
+    }
+
+    /// A mutex is given back.
+    pub(crate) fn give_mutex_back(&mut self, doer: Doer, id: u32) -> Result<(), NoMemory>
+        ensures { OnOk result (self.new ≡ gives_mutex_back doer id self.old) }
+    {
+        self.release(doer, ThingKind::Mutex, id)
+    }
+
+    /// A mutex is taken.
+    pub(crate) fn take_mutex(&mut self, doer: Doer, id: u32) -> Result<(), NoMemory>
+        ensures { OnOk result (self.new ≡ takes_mutex doer id self.old) }
+    {
+        self.acquire(doer, ThingKind::Mutex, id)
     }
 
     /// A bit of an event flag is set, if a pattern has it.

@@ -75,6 +75,8 @@ impl Log {
         match call {
             Call::SigSem(id) => self.give_unit(doer, id),
             Call::TwaiSem(id, _) => self.get_unit(doer, id),
+            Call::TlocMtx(id, _) => self.take_mutex(doer, id),
+            Call::UnlMtx(id) => self.give_mutex_back(doer, id),
             Call::SetFlg(id, bits) => self.set_bits(doer, id, bits),
             Call::TwaiFlg(id, bits, _, _) => self.get_bits(doer, id, bits, second),
             Call::TsndDtq(id, _, _) => self.send(doer, id),
@@ -118,7 +120,8 @@ impl Log {
             | Call::RefTsk(_, _)
             | Call::RefSem(_, _)
             | Call::RefFlg(_, _)
-            | Call::RefDtq(_, _) => Ok(()),
+            | Call::RefDtq(_, _)
+            | Call::RefMtx(_, _) => Ok(()),
         }
     }
 
@@ -150,6 +153,7 @@ impl Log {
     {
         match call {
             Call::TwaiSem(id, _) => self.get_unit(doer, id),
+            Call::TlocMtx(id, _) => self.take_mutex(doer, id),
             Call::TwaiFlg(id, bits, _, _) => self.get_bits(doer, id, bits, second),
             Call::TsndDtq(id, _, _) => self.send_at_last(caller, doer, id),
             Call::TrcvDtq(id, _) => self.receive_at_last(caller, doer, id),
@@ -197,7 +201,9 @@ impl Log {
             | Call::RefTsk(_, _)
             | Call::RefSem(_, _)
             | Call::RefFlg(_, _)
-            | Call::RefDtq(_, _) => Ok(()),
+            | Call::RefDtq(_, _)
+            | Call::UnlMtx(_)
+            | Call::RefMtx(_, _) => Ok(()),
         }
     }
 

@@ -32,6 +32,8 @@ pub enum ThingKind {
     Halt,
     /// The word at an address, by LL and SC and by SYNC.
     Word,
+    /// A mutex.
+    Mutex,
 }
 
 /// What orders tasks and handlers.
@@ -71,7 +73,7 @@ impl Thing {
 /// The place of a kind among all.
 fn rank_of(kind: ThingKind) -> u64
     ensures is { result ≡ rank_of kind }
-    ensures few { result ≤ 12 }
+    ensures few { result ≤ 13 }
 {
     match kind {
         ThingKind::Semaphore => 0,
@@ -87,5 +89,6 @@ fn rank_of(kind: ThingKind) -> u64
         ThingKind::Going => 10,
         ThingKind::Halt => 11,
         ThingKind::Word => 12,
+        ThingKind::Mutex => 13,
     }
 }

@@ -124,7 +124,7 @@ released-but : (t : TaskTable) (id at answer : ℕ) (second : Option ℕ) (s : S
     TableBut at (released_with (t-with (other at s) t) id answer second) (released_with t id answer second)
 released-but t id at answer second s = elim (cases_eq id at) [
   | inl same ↦ subst (λ n. TableBut at (released_with (t-with (other at s) t) n answer second) (released_with t n answer second)) (sym same)
-    (row-but t at answer second s (task_at t at))
+      (row-but t at answer second s (task_at t at))
   | inr apart ↦ record { context = s; is = released-at-with (other at s) t id answer second (at-other at id s apart) }
 ]
 

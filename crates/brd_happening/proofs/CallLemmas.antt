@@ -1,6 +1,6 @@
 -- An event that makes a service call finds a SYSCALL before it.
 use Rattle.std.proofs.Common.{◌≡◌, ℕ, refl, sym, ap, ◌∙◌}
-use Rattle.std.specs.Prelude.{Bool, true, false, ◌&&◌, ◌-◌, ◌%◌, ◌==◌, if◌then◌else◌, is_some, [], Option, None, Some, Result, Ok, Err}
+use Rattle.std.specs.Prelude.{Bool, true, false, ◌&&◌, ◌||◌, ◌-◌, ◌%◌, ◌==◌, if◌then◌else◌, is_some, [], Option, None, Some, Result, Ok, Err}
 use Rattle.std.proofs.lemmas.Bool.{false≢true}
 use Rattle.std.specs.Option.{option_map}
 use Rattle.std.specs.List.{filter_map}
@@ -196,7 +196,15 @@ executor-calls b cpu who is ends =
 
 -- where what happens may release tasks, the event looks as if it may
 abbrev Looks : BoardState → Event → Happened → Type 0
-Looks b event h = releases h.report ≡ true → may_release event (found_in b event) ≡ true
+Looks b event h = releases b.kernel.standard h.report ≡ true → may_release b event (found_in b event) ≡ true
+
+first-so : (one other : Bool) → one ≡ true → (one || other) ≡ true
+first-so true other is = refl
+first-so false other is = absurd (false≢true is)
+
+second-so : (one other : Bool) → other ≡ true → (one || other) ≡ true
+second-so true other is = refl
+second-so false other is = is
 
 either : (test : Bool) (b : BoardState) (event : Event) (one other : Happened) → Looks b event one → Looks b event other →
     Looks b event (if test then one else other)
@@ -207,8 +215,8 @@ looks-done : (b c : BoardState) (cpu address : ℕ) (outcome : Outcome) → (is_
     Looks b (Step cpu) (instruction_done c cpu address outcome)
 unfolding is_syscall
 looks-done b c cpu address Done finds = λ told. absurd (false≢true told)
-looks-done b c cpu address Syscall finds = λ told. finds refl
-looks-done b c cpu address (Exception code epc bd) finds = λ told. absurd (false≢true told)
+looks-done b c cpu address Syscall finds = λ told. second-so b.kernel.standard (finds_call (found_on b cpu)) (finds refl)
+looks-done b c cpu address (Exception code epc bd) finds = λ told. first-so b.kernel.standard (finds_call (found_on b cpu)) told
 
 looks-executes : (b : BoardState) (cpu : ℕ) (who : Option Executor) → executor_on b.kernel cpu ≡ who →
     Looks b (Step cpu) (executes_in b cpu (executed_in b.kernel cpu b.memory b.links who))
@@ -248,4 +256,5 @@ released-all false looks b after look = refl
 
 pub all-released : (b : BoardState) (event : Event) → (happening_of b event).released ≡ released_between b (happens b event)
 all-released b event =
-    released-all (releases (happens b event).report) (may_release event (found_in b event)) b (happens b event).board (event-looks b event)
+    released-all (releases b.kernel.standard (happens b event).report) (may_release b event (found_in b event)) b
+    (happens b event).board (event-looks b event)

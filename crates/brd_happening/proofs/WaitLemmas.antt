@@ -1,4 +1,4 @@
--- Service calls and ticks alone release tasks.
+-- Service calls and ticks release tasks, and with the profile exceptions; nothing else does.
 use Rattle.std.proofs.Common.{◌≡◌, ℕ, refl, sym, ap, ◌∙◌, arith}
 use Rattle.std.specs.Prelude.{Bool, true, false, not, ◌&&◌, ◌==◌, if◌then◌else◌, nat_lt, is_some, List, [], ◌∷◌, slice_index_or, slice_set, Option, None, Some}
 use Rattle.std.specs.Option.{option_map}
@@ -21,8 +21,11 @@ use Rattle.brd_time.specs.Time.{last_count, due_of}
 use Rattle.brd_kernel.specs.declared.processor.Processor.{Processor}
 use Rattle.brd_kernel.specs.declared.processor.Executor.{Executor}
 use Rattle.brd_kernel.specs.declared.processor.Executor.TheVariants as executor
-use Rattle.brd_kernel.specs.Kernel.{KernelState, processor_at, running_in, running_on, executor_on, context_of, with_context_of, handles, deliverable, line_at}
-use Rattle.brd_kernel.specs.Waits.{shown_until, seen_at, faulted_task, faulted_in}
+use Rattle.brd_kernel.specs.Kernel.{KernelState, with_tasks, processor_at, running_in, running_on, executor_on, context_of, with_context_of, handles, deliverable, line_at}
+use Rattle.brd_kernel.specs.Waits.{shown_until, seen_at, ended_in, given_below, all_given_in, priorities_of, prioritized_below, prioritized}
+use Rattle.brd_kernel.specs.Waits.{faulted_task, faulted_in, ended_by_fault}
+use Rattle.brd_kernel.proofs.SameLemmas.{same-prioritized, same-context}
+use Rattle.brd_kernel.proofs.ProfileLemmas.{fault-alike}
 use Rattle.brd_kernel.specs.Running.{is_ready_on, IsRunning}
 use Rattle.brd_board.specs.Executing.{executed_by, executed_in}
 use Rattle.brd_board.specs.declared.event.Event.{Event}
@@ -147,36 +150,59 @@ other-stays false t id at test none is =
     ap row-waits (ended-other (noted without_activation t id) id at (task_at (noted without_activation t id) id) test
     ∙ noted-other t id at (task_at t id) test) ∙ is
 
-fault-task : (k : KernelState) (cpu : ℕ) (p : Processor) (running : Option ℕ) →
+-- Without the profile nothing is given back, and no priority is given.
+
+plain : (test : Bool) (one other : KernelState) → test ≡ false → (if test then one else other) ≡ other
+plain true one other is = absurd (false≢true (sym is))
+plain false one other is = refl
+
+plain-given : (k : KernelState) (id : ℕ) → k.standard ≡ false → all_given_in k id ≡ k
+plain-given k id is = plain k.standard (given_below k id 256) k is
+
+plain-prioritized : (k : KernelState) → k.standard ≡ false → prioritized k ≡ k
+plain-prioritized k is = plain k.standard (prioritized_below k (priorities_of k) 256) k is
+
+fault-task : (k : KernelState) (cpu : ℕ) (p : Processor) (running : Option ℕ) → k.standard ≡ false →
     ((id : ℕ) → running ≡ Some id → row-waits (task_at k.tasks id) ≡ false) → Stay k (faulted_task k cpu p running)
-fault-task k cpu p None none = λ id is. is
-fault-task k cpu p (Some id) none = λ at is. other-stays (id == at) k.tasks id at refl (none id refl) is
+fault-task k cpu p None is none = λ id waited. waited
+fault-task k cpu p (Some id) is none = λ at waited.
+    let noted-so : KernelState = with_tasks k (noted without_activation k.tasks id) in
+    ap (λ (left : KernelState). row-waits (task_at (ended_in left id).tasks at)) (plain-given noted-so id is)
+    ∙ other-stays (id == at) k.tasks id at refl (none id refl) waited
 
 either-stays : (test : Bool) (k one other : KernelState) → Stay k one → Stay k other → Stay k (if test then one else other)
 either-stays true k one other first second = first
 either-stays false k one other first second = second
 
-fault-stays : (k : KernelState) (cpu : ℕ) (p : Option Processor) → processor_at k cpu ≡ p → RunsOn k → Stay k (faulted_in k cpu p)
-fault-stays k cpu None is was = λ id waited. waited
-fault-stays k cpu (Some p) is was =
+faulted-stays : (k : KernelState) (cpu : ℕ) (p : Option Processor) → k.standard ≡ false → processor_at k cpu ≡ p → RunsOn k →
+    Stay k (faulted_in k cpu p)
+faulted-stays k cpu None plain is was = λ id waited. waited
+faulted-stays k cpu (Some p) plain is was =
     either-stays (is_some p.handling) k _ (faulted_task k cpu p p.running) (λ id waited. waited)
-    (fault-task k cpu p p.running (λ id runs. was cpu id (ap running_in is ∙ runs)))
+    (fault-task k cpu p p.running plain (λ id runs. was cpu id (ap running_in is ∙ runs)))
+
+fault-stays : (k : KernelState) (cpu : ℕ) → k.standard ≡ false → RunsOn k → Stay k (ended_by_fault k cpu)
+fault-stays k cpu plain was = λ id waited.
+    let left : KernelState = faulted_in k cpu (processor_at k cpu) in
+    ap (λ (new : KernelState). row-waits (task_at new.tasks id))
+    (plain-prioritized left (sym (same-prioritized left).standard ∙ fault-alike k cpu ∙ plain))
+    ∙ faulted-stays k cpu (processor_at k cpu) plain refl was id waited
 
 -- Events.
 
 abbrev Goes : BoardState → Happened → Type 0
-Goes b h = releases h.report ≡ false → Stay b.kernel h.board.kernel
+Goes b h = releases b.kernel.standard h.report ≡ false → Stay b.kernel h.board.kernel
 
 either : (test : Bool) (b : BoardState) (one other : Happened) → Goes b one → Goes b other → Goes b (if test then one else other)
 either true b one other first second = first
 either false b one other first second = second
 
-goes-done : (b c : BoardState) (cpu address : ℕ) (outcome : Outcome) → RunsOn c.kernel → Stay b.kernel c.kernel →
-    Goes b (instruction_done c cpu address outcome)
-goes-done b c cpu address Done runs stay = λ told. stay
-goes-done b c cpu address Syscall runs stay = λ told. absurd (false≢true (sym told))
-goes-done b c cpu address (Exception code epc bd) runs stay =
-    λ told id is. fault-stays c.kernel cpu (processor_at c.kernel cpu) refl runs id (stay id is)
+goes-done : (b c : BoardState) (cpu address : ℕ) (outcome : Outcome) → c.kernel.standard ≡ b.kernel.standard → RunsOn c.kernel →
+    Stay b.kernel c.kernel → Goes b (instruction_done c cpu address outcome)
+goes-done b c cpu address Done same runs stay = λ told. stay
+goes-done b c cpu address Syscall same runs stay = λ told. absurd (false≢true (sym told))
+goes-done b c cpu address (Exception code epc bd) same runs stay =
+    λ told id is. fault-stays c.kernel cpu (same ∙ told) runs id (stay id is)
 
 goes-executes : (b : BoardState) (cpu : ℕ) (who : Option Executor) → RunsOn b.kernel →
     Goes b (executes_in b cpu (executed_in b.kernel cpu b.memory b.links who))
@@ -185,7 +211,7 @@ goes-executes b cpu (Some who) runs =
     let left = ran cpu (context_of b.kernel cpu who) b.memory b.links in
     let address = (context_of b.kernel cpu who).pc in
     goes-done b (with_executed b (executed_by b.kernel cpu who address left)) cpu address left.outcome
-    (context-runs b.kernel cpu who left.state runs) (context-stays b.kernel cpu who left.state)
+    (same-context b.kernel cpu who left.state).standard (context-runs b.kernel cpu who left.state runs) (context-stays b.kernel cpu who left.state)
 
 goes-accepts : (b : BoardState) (cpu : ℕ) (line : Option ℕ) → RunsOn b.kernel → Goes b (accepts_or_executes b cpu line)
 goes-accepts b cpu None runs = goes-executes b cpu (executor_on b.kernel cpu) runs
@@ -215,5 +241,5 @@ pub alone-released : (b : BoardState) (event : Event) → IsRunning b.kernel →
 alone-released b event was =
     let after = (happens b event).board in
     all-released b event
-    ∙ released-by (releases (happens b event).report) b after
+    ∙ released-by (releases b.kernel.standard (happens b event).report) b after
     (λ told. none-of b after (range_with_len 1 255) (stays-seen b.kernel after.kernel (event-goes b event (runs-on b.kernel was) told)))

@@ -1,5 +1,5 @@
 -- What has to be read of a board before an event.
-use Rattle.std.specs.Prelude.{Bool, true, false, if◌then◌else◌, List, [], Option, None, Some}
+use Rattle.std.specs.Prelude.{Bool, true, false, ◌||◌, if◌then◌else◌, List, [], Option, None, Some}
 use Rattle.brd_isa.specs.declared.instruction.Insn.{Insn}
 use Rattle.brd_kernel.specs.declared.processor.Standing.{Standing}
 use Rattle.brd_kernel.specs.Kernel.{line_at}
@@ -30,7 +30,8 @@ is_pending b (Step cpu) = false
 is_pending b Tick = false
 is_pending b (Raise line) = (line_at b.kernel line).pending
 
--- Calls and ticks alone release tasks: only where an event may be one of these it matters who waits.
+-- Calls and ticks release tasks, and with the profile exceptions, which end a task that gives its mutexes back: only of
+-- an event that may be one of these it matters who waits.
 
 abbrev pub is_call : Option Insn → Bool
 is_call (Some (Insn.Syscall code)) = true
@@ -40,10 +41,10 @@ abbrev pub finds_call : Option Found → Bool
 finds_call None = false
 finds_call (Some found) = is_call found.insn
 
-abbrev pub may_release : Event → Option Found → Bool
-may_release (Step cpu) found = finds_call found
-may_release Tick found = true
-may_release (Raise line) found = false
+abbrev pub may_release : BoardState → Event → Option Found → Bool
+may_release b (Step cpu) found = b.kernel.standard || finds_call found
+may_release b Tick found = true
+may_release b (Raise line) found = false
 
 abbrev pub waiters_in : BoardState → Bool → List Waiter
 waiters_in b asked = if asked then waiters_of b else []
@@ -55,6 +56,7 @@ before_of b event = record {
   who = who_of b event;
   found = found_in b event;
   pending = is_pending b event;
-  waiters = waiters_in b (may_release event (found_in b event));
+  standard = b.kernel.standard;
+  waiters = waiters_in b (may_release b event (found_in b event));
   off = b.kernel.off;
 }

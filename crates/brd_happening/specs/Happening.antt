@@ -75,23 +75,24 @@ what_of before report.Ticked after = what.Tick after.kernel.time.count
 what_of before report.TimeOver after = what.Nothing why.TimeOver
 what_of before report.Raised after = was_raised before.event before.pending
 
--- calls and ticks release tasks
-abbrev pub releases : Report → Bool
-releases report.Off = false
-releases report.NoSuch = false
-releases report.Stopped = false
-releases (report.Accepted line) = false
-releases (report.Ran address) = false
-releases (report.Called address) = true
-releases (report.Faulted address) = false
-releases report.Idle = false
-releases report.Ticked = true
-releases report.TimeOver = false
-releases report.Raised = false
+-- calls and ticks release tasks, and with the profile exceptions, which end a task that gives its mutexes back
+abbrev pub releases : Bool → Report → Bool
+releases standard report.Off = false
+releases standard report.NoSuch = false
+releases standard report.Stopped = false
+releases standard (report.Accepted line) = false
+releases standard (report.Ran address) = false
+releases standard (report.Called address) = true
+releases standard (report.Faulted address) = standard
+releases standard report.Idle = false
+releases standard report.Ticked = true
+releases standard report.TimeOver = false
+releases standard report.Raised = false
 
 -- those who waited before and are released after
 abbrev pub released_in : Before → Report → BoardState → List Release
-released_in before told after = if releases told then filter_map (release_in after) before.waiters else []
+released_in before told after =
+    if releases before.standard told then filter_map (release_in after) before.waiters else []
 
 abbrev pub processor_of : Event → Option ℕ
 processor_of (Step cpu) = Some cpu
@@ -118,7 +119,8 @@ happening_of b event =
 
 -- the tasks that an event releases: of all that wait before it those whose call is answered after it
 abbrev pub released_between : BoardState → Happened → List Release
-released_between b h = if releases h.report then filter_map (release_in h.board) (waiters_of b) else []
+released_between b h =
+    if releases b.kernel.standard h.report then filter_map (release_in h.board) (waiters_of b) else []
 
 -- something is told of an event
 abbrev pub is_told : What → Bool

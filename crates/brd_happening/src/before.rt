@@ -29,7 +29,9 @@ pub struct Before {
     pub found: Option<Found>,
     /// Whether the line is pending that it raises.
     pub pending: bool,
-    /// The tasks that wait, where it may release some.
+    /// Whether there is the profile.
+    pub standard: bool,
+    /// The tasks that wait, if it may release some.
     pub waiters: List<Waiter>,
     /// Whether the board is off.
     pub off: bool,
@@ -43,6 +45,7 @@ impl Drop for Before {
             who: _,
             found: _,
             pending: _,
+            standard: _,
             waiters: _,
             off: _,
         } = self;
@@ -55,12 +58,13 @@ impl Before {
         ensures { IfOk result (λ before. before ≡ before_of board.now event) }
     {
         let found = found_in(board, event);
-        let waiters = waiters_in(alloc, board, may_release(event, &found))?;
+        let waiters = waiters_in(alloc, board, may_release(board, event, &found))?;
         Ok(Before {
             event,
             who: who_of(board, event),
             found,
             pending: is_pending(board, event),
+            standard: board.is_standard(),
             waiters,
             off: board.is_off(),
         })
@@ -97,13 +101,14 @@ fn is_pending(board: &Board, event: Event) -> bool
     }
 }
 
-/// Whether an event may release tasks: a tick, and a step that finds a SYSCALL.
-fn may_release(event: Event, found: &Option<Found>) -> bool
-    ensures { result ≡ may_release event found.now }
+/// Whether an event may release tasks: a tick, a step that finds a SYSCALL, and with the profile each step, since an
+/// exception gives back what its task has of mutexes.
+fn may_release(board: &Board, event: Event, found: &Option<Found>) -> bool
+    ensures { result ≡ may_release board.now event found.now }
 {
     match event {
         Event::Tick => true,
-        Event::Step(_) => finds_call(found),
+        Event::Step(_) => board.is_standard() || finds_call(found),
         Event::Raise(_) => false,
     }
 }

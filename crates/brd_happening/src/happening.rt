@@ -146,7 +146,7 @@ impl Before {
     ) -> Result<List<Release>, NoMemory>
         ensures { IfOk result (λ released. released ≡ released_in self.now report after.now) }
     {
-        if !releases(report) {
+        if !releases(self.standard, report) {
             return Ok(List::new(alloc));
         }
         released(alloc, self.waiters.as_slice(), after)
@@ -263,9 +263,13 @@ fn was_raised(event: Event, pending: bool) -> What
     }
 }
 
-/// Whether an event that reports this may release tasks.
-fn releases(report: Report) -> bool
-    ensures { result ≡ releases report }
+/// Whether an event that reports this may release tasks, with the profile or without it.
+fn releases(standard: bool, report: Report) -> bool
+    ensures { result ≡ releases standard report }
 {
-    matches!(report, Report::Called(_) | Report::Ticked)
+    match report {
+        Report::Called(_) | Report::Ticked => true,
+        Report::Faulted(_) => standard,
+        _ => false,
+    }
 }

@@ -24,9 +24,10 @@ pub fn who_is_released_is_told()
         (happening_of board event).released ≡ released_between board (happens board event) }
 {}
 
-/// No other event than a service call and a tick releases a task: on every board whose running tasks are ready, as all
-/// are after a boot, these are all tasks that wait before an event and whose call is answered after it.
-pub fn calls_and_ticks_alone_release()
+/// No other event than a service call, a tick and, with the profile, an exception releases a task: on every board whose
+/// running tasks are ready, as all are after a boot, these are all tasks that wait before an event and whose call is
+/// answered after it.
+pub fn no_other_event_releases()
     ensures { (board : BoardState) (event : EventOf) → IsRunning board.kernel →
         (happening_of board event).released
         ≡ filter_map (release_in (happens board event).board) (waiters_of board) }

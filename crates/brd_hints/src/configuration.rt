@@ -2,11 +2,13 @@
 
 use crate::finding::{BYTE_ORDER_MARK, Finding, MARKED, told};
 use crate::hint::FaultHint;
-use crate::keywords::{OTHERS, Told, WORDS, told_of};
+use crate::keywords::{OTHERS, Told, WORDS, WORDS_OF_THE_PROFILE, told_of};
 use crate::names::{advice, near_name};
 use crate::scan::{behind, first};
 use crate::values_of::value_fault;
-use brd_config::{ConfigFault, KEYWORDS, Keyword, attribute_named, class_of, keyword_of, open};
+use brd_config::{
+    ConfigFault, KEYWORDS, Keyword, attribute_named, class_of, keyword_of, open, protocol_named,
+};
 use brd_text::{Token, is_digit, is_name, number};
 use std::alloc::Global;
 
@@ -28,6 +30,8 @@ pub fn config_hint(alloc: Global, text: &[u8], fault: ConfigFault) -> FaultHint 
 /// What is read of a configuration so far.
 #[derive(Drop)]
 struct Reading<'a> {
+    /// Whether the text begins with the profile.
+    standard: bool,
     /// The word of the statement that isn't at its end.
     word: &'a [u8],
     /// What is told of it.
@@ -49,8 +53,9 @@ fn form_fault(text: &[u8], wanted: usize) -> Option<Finding<'_>> {
     if text.starts_with(BYTE_ORDER_MARK) {
         return (wanted == 1).then_some(said(MARKED));
     }
-    let (_, mut scanner) = open(text);
+    let (standard, mut scanner) = open(text);
     let mut reading = Reading {
+        standard,
         word: &[],
         told: told_of(Keyword::Board),
         wanted: &[],
@@ -108,6 +113,7 @@ impl<'a> Reading<'a> {
             b'v' => is_number || is_name(word),
             b'z' => is_number || word == b"NULL".as_slice(),
             b'a' => is_number || attribute_named(word).is_some(),
+            b'p' => is_number || protocol_named(word).is_some(),
             b'c' => class_of(word).is_some(),
             _ => false,
         };
@@ -165,8 +171,11 @@ impl<'a> Reading<'a> {
     /// What is wrong with a word that begins a statement.
     fn begin(&mut self, word: &'a [u8]) -> Option<Finding<'a>> {
         let Some(keyword) = keyword_of(word) else {
-            return Some(unknown_statement(word));
+            return Some(unknown_statement(self.standard, word));
         };
+        if !self.standard && matches!(keyword, Keyword::Mutex) {
+            return Some(no_statement(self.standard, word));
+        }
         if !self.has_board && !matches!(keyword, Keyword::Board) {
             let template = b"BOARD(processors, ram); comes first, before ~";
             return Some(Finding::at(&[], template, word));
@@ -190,7 +199,7 @@ impl<'a> Reading<'a> {
             b'{' => b"a { is missing: the form is ^".as_slice(),
             b'}' => b"a } is missing, or an operand is too many: the form is ^".as_slice(),
             b',' => b"a comma or an operand is missing: the form is ^".as_slice(),
-            b'a' => b"an attribute is missing: the form is ^".as_slice(),
+            b'a' | b'p' => b"an attribute is missing: the form is ^".as_slice(),
             _ => b"an operand is missing: the form is ^".as_slice(),
         };
         Finding::at(&[], template, self.word)
@@ -201,7 +210,7 @@ impl<'a> Reading<'a> {
     /// What is said of a run that isn't what is wanted.
     fn misfit(&self, kind: u8, word: &'a [u8]) -> Finding<'a> {
         let template = match kind {
-            b'a' => b"unknown attribute ~: there are ^".as_slice(),
+            b'a' | b'p' => b"unknown attribute ~: there are ^".as_slice(),
             b'c' => b"~ is no class: write TCL_ and the processor's number, as TCL_2".as_slice(),
             b'z' => b"~ stands where NULL or a number is wanted: the form is ^".as_slice(),
             b'n' | b'v' if is_digit(first(word)) => {
@@ -211,7 +220,7 @@ impl<'a> Reading<'a> {
             b',' => b"a comma is missing before ~: the form is ^".as_slice(),
             _ => return self.missing(kind),
         };
-        let other = if kind == b'a' {
+        let other = if kind == b'a' || kind == b'p' {
             self.told.attributes
         } else {
             self.told.form
@@ -221,8 +230,7 @@ impl<'a> Reading<'a> {
 }
 
 /// What is said of a word that begins no statement.
-fn unknown_statement(word: &[u8]) -> Finding<'_> {
-    let unknown = Finding::at(&[], b"this kernel hasn't ~ (^)", word);
+fn unknown_statement(standard: bool, word: &[u8]) -> Finding<'_> {
     if word == b"PROFILE".as_slice() {
         let template = b"~ stands once, before BOARD, as PROFILE(STANDARD);";
         return Finding::at(&[], template, word);
@@ -232,11 +240,23 @@ fn unknown_statement(word: &[u8]) -> Finding<'_> {
             return Finding::at(&[], b"~ is written in upper case", word);
         }
     }
-    if let Some(text) = advice(OTHERS, word) {
-        return unknown.with_other(text);
+    if advice(OTHERS, word).is_some() {
+        return no_statement(standard, word);
     }
     if let Some(near) = near_name(KEYWORDS, word) {
         return Finding::at(&[], b"unknown statement ~ (the nearest is ^)", word).with_other(near);
     }
-    unknown.with_other(WORDS)
+    no_statement(standard, word)
+}
+
+/// What is said of a word that begins no statement, with the profile or without.
+fn no_statement(standard: bool, word: &[u8]) -> Finding<'_> {
+    let words = if standard {
+        WORDS_OF_THE_PROFILE
+    } else {
+        WORDS
+    };
+    Finding::at(&[], b"this kernel hasn't ~ (^)", word).with_other(advice(OTHERS, word).unwrap_or(
+        words,
+    ))
 }

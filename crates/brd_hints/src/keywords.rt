@@ -6,7 +6,7 @@ use brd_config::Keyword;
 #[derive(Clone, Copy)]
 pub(crate) struct Told {
     /// Its marks and operands in their order. Of the operands `n` is a number, `v` a number or a name, `z` a number or
-    /// NULL, `a` attributes, `c` a class.
+    /// NULL, `a` attributes, `p` the protocol of a mutex, `c` a class.
     pub marks: &'static [u8],
     /// Its form in words.
     pub form: &'static [u8],
@@ -62,8 +62,8 @@ pub(crate) fn told_of(keyword: Keyword) -> Told {
             again: b"spin lock ? is there already, on line &",
         },
         Keyword::Mutex => Told {
-            marks: b"(n,{a,n});",
-            form: b"CRE_MTX(id, {attributes, ceiling});",
+            marks: b"(n,{p,n});",
+            form: b"CRE_MTX(id, {protocol, ceiling});",
             attributes: b"TA_TFIFO, TA_TPRI, TA_INHERIT and TA_CEILING",
             again: b"mutex ? is there already, on line &",
         },
@@ -80,8 +80,12 @@ pub(crate) fn told_of(keyword: Keyword) -> Told {
 pub(crate) const WORDS: &[u8] =
     b"there are BOARD, CLASS, CRE_TSK, CRE_SEM, CRE_FLG, CRE_DTQ, CRE_SPN and DEF_INH";
 
+/// The words that begin a statement with the profile.
+pub(crate) const WORDS_OF_THE_PROFILE: &[u8] =
+    b"there are BOARD, CLASS, CRE_TSK, CRE_SEM, CRE_FLG, CRE_DTQ, CRE_SPN, CRE_MTX and DEF_INH";
+
 /// What is said of statements that uITRON and TOPPERS have and this kernel hasn't: a line for those of which the same
-/// is said.
+/// is said. With the profile there are mutexes.
 pub(crate) const OTHERS: &[u8] = b"\
 CRE_MTX: mutexes are there with PROFILE(STANDARD); before BOARD: else use CRE_SEM with a maximum of 1
 CRE_CYC CRE_ALM DEF_OVR: no cyclic or alarm handlers: a task can wait by dly_tsk

@@ -4,10 +4,14 @@ use crate::finding::Finding;
 use crate::keywords::told_of;
 use brd_base::is_ram_size;
 use brd_config::{
-    ConfigFault, Keyword, attribute_named, class_of, keyword_of, open, read_board, read_statement,
+    ConfigFault, Keyword, attribute_named, class_of, keyword_of, open, protocol_named, read_board,
+    read_statement,
 };
 use brd_text::{Scanner, Token, number};
 use std::alloc::Global;
+
+/// The number of TA_CEILING.
+const CEILING: u64 = 3;
 
 /// A statement whose form is right.
 #[derive(Clone, Copy)]
@@ -22,7 +26,8 @@ struct Valued<'a> {
 
 /// What a run stands for.
 fn value_of(word: &[u8]) -> u64 {
-    match attribute_named(word).or(class_of(word)).or(number(word)) {
+    let named = attribute_named(word).or(protocol_named(word));
+    match named.or(class_of(word)).or(number(word)) {
         Some(value) => value as u64,
         None => 0,
     }
@@ -139,11 +144,14 @@ fn limit_of(fault: ConfigFault, keyword: Keyword, read: &Valued) -> Option<(usiz
                 b"~ has no attribute with the bits of ?: there are ^".as_slice(),
             )
         }
-        (ConfigFault::BadPriority { .. }, Keyword::Mutex) => {
+        (ConfigFault::BadPriority { .. }, Keyword::Mutex) if read.value(1) == CEILING => {
             (
                 2,
-                b"the ceiling of a mutex is 1 (highest) to 16, or without TA_CEILING 0, found ?".as_slice(),
+                b"the ceiling of a mutex with TA_CEILING is 1 (highest) to 16, found ?".as_slice(),
             )
+        }
+        (ConfigFault::BadPriority { .. }, Keyword::Mutex) => {
+            (2, b"the ceiling of a mutex is up to 16, found ?".as_slice())
         }
         (ConfigFault::BadPriority { .. }, _) => {
             (

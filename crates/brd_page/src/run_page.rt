@@ -57,7 +57,7 @@ pub struct Part<'a> {
     pub journal: &'a Journal,
     /// The lines of its source that are known.
     pub lines: &'a Lines,
-    /// Which tasks have units of semaphores in the end.
+    /// Which tasks have units of semaphores, and mutexes, in the end.
     pub units: &'a Units,
     /// The position from which on events were asked for: a page may begin later, and says so.
     pub asked: u64,

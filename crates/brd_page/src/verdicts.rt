@@ -3,7 +3,7 @@
 use crate::data::Json;
 use brd_base::NoMemory;
 use brd_board::Board;
-use brd_verdicts::{Unit, Units, Wait, circular_wait, is_deadlocked};
+use brd_verdicts::{Lock, Unit, Units, Wait, circular_wait, is_deadlocked, is_same};
 use std::alloc::Global;
 
 /// Puts at the end whether a board is deadlocked, and a list of the tasks that wait for each other, by what was counted
@@ -31,26 +31,37 @@ fn put_circle(
     board: &Board,
 ) -> Result<(), NoMemory> {
     let found = circular_wait(alloc, units, board)?;
-    let taken = units.lock_units(alloc)?;
+    let taken = units.lock_units(alloc, board)?;
     for wait in found.as_slice() {
         put_wait(json, *wait, taken.as_slice())?;
     }
     Ok(())
 }
 
-/// Puts a task at the end that waits for a semaphore: its number, that of the semaphore, and who has taken its units.
+/// Puts a task at the end that waits: its number, that of the semaphore or the mutex, who has taken its units or it,
+/// and a 1 if it is a mutex.
 fn put_wait(json: &mut Json, wait: Wait, taken: &[Unit]) -> Result<(), NoMemory> {
     json.begin_list()?;
     json.number(u64::from(wait.task))?;
-    json.number(u64::from(wait.semaphore))?;
+    json.number(u64::from(number_of(wait.lock)))?;
     json.begin_list()?;
     for unit in taken {
-        if unit.semaphore == wait.semaphore {
+        if is_same(wait.lock, unit.lock) {
             put_unit(json, *unit)?;
         }
     }
     json.end_list()?;
+    if matches!(wait.lock, Lock::Mutex(_)) {
+        json.number(1)?;
+    }
     json.end_list()
+}
+
+/// The number of a semaphore or a mutex.
+fn number_of(lock: Lock) -> u32 {
+    match lock {
+        Lock::Semaphore(id) | Lock::Mutex(id) => id,
+    }
 }
 
 /// Puts a unit at the end: the number of the task that has taken it, and the position of the event in which it did.

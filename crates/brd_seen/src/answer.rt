@@ -38,12 +38,28 @@ pub fn context_advice(number: u32) -> Option<&'static str> {
         34 => "not from a handler, which calls ipsnd_dtq, nor with the CPU locked",
         36 => "not from a handler, which calls ifsnd_dtq, nor with the CPU locked",
         3 => "not from a handler, which ends by ret_int",
-        16 | 17 | 23 | 25 | 27 | 30 | 32 | 33 | 35 | 37 | 39 => {
+        16 | 17 | 23 | 25 | 27 | 30 | 32 | 33 | 35 | 37 | 39 | 77 | 79 => {
             "it may wait: not from a handler, nor with the CPU locked or dispatching disabled"
         }
-        2 | 4..=6 | 8 | 9 | 12 | 13 | 19 | 21 | 22 | 26 | 29 | 31 | 38 | 40 | 60 | 61 => {
-            "not from a handler, nor with the CPU locked"
-        }
+        2
+        | 4..=6
+        | 8
+        | 9
+        | 12
+        | 13
+        | 19
+        | 21
+        | 22
+        | 26
+        | 29
+        | 31
+        | 38
+        | 40
+        | 60
+        | 61
+        | 78
+        | 80
+        | 81 => { "not from a handler, nor with the CPU locked" }
         15 => "not from a handler, nor with a spin lock held",
         14 | 41 | 62 => "not from a handler",
         48 => "from a handler alone: a task calls act_tsk",

@@ -12,7 +12,8 @@ use Rattle.brd_verdicts.specs.declared.accounts.Accounts.{Accounts}
 use Rattle.brd_verdicts.specs.declared.circle.Wait.{Wait}
 use Rattle.brd_verdicts.specs.declared.losses.LostRaises.{LostRaises}
 use Rattle.brd_verdicts.specs.declared.refusals.Refused.{Refused}
-use Rattle.brd_verdicts.specs.declared.units.{Unit.Unit, Units.Units}
+use Rattle.brd_verdicts.specs.declared.units.{Lock.Lock, Unit.Unit, Units.Units}
+use Rattle.brd_verdicts.specs.declared.units.Lock.TheVariants.{Semaphore, Mutex}
 use Rattle.brd_verdicts.specs.Circle.{IsCircularWait, is_of}
 use Rattle.brd_verdicts.specs.Units.{lock_units}
 use Rattle.brd_summary.specs.Texts.{AreTexts}
@@ -28,11 +29,14 @@ holders_text [] = []
 holders_text (unit ∷ units) =
     holder_text (codes ", which task") unit ++ flat_map (holder_text (codes " and task")) units
 
+abbrev pub lock_text : Lock → List ℕ
+lock_text (Semaphore semaphore) = named_text (codes " waits for semaphore") semaphore
+lock_text (Mutex mutex) = named_text (codes " waits for mutex") mutex
+
 -- a task, what it waits for, and who of these has units of that
 abbrev pub wait_text : List Unit → Wait → List ℕ
 wait_text units wait =
-    named_text (codes "task") wait.task ++ named_text (codes " waits for semaphore") wait.semaphore
-    ++ holders_text (filter (is_of wait) units)
+    named_text (codes "task") wait.task ++ lock_text wait.lock ++ holders_text (filter (is_of wait) units)
 
 abbrev pub next_text : List Unit → Wait → List ℕ
 next_text units wait = codes "; " ++ wait_text units wait
@@ -47,7 +51,7 @@ circle_text units (wait ∷ waits) =
 abbrev pub IsCircle : Units → BoardState → List ℕ → Type 0
 IsCircle units board text =
     MatchBool board.kernel.off (text ≡ [])
-    ((found : List Wait) × IsCircularWait units board found × (text ≡ circle_text (lock_units units) found))
+    ((found : List Wait) × IsCircularWait units board found × (text ≡ circle_text (lock_units units board) found))
 
 -- ---- calls that were refused
 

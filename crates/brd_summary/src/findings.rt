@@ -12,6 +12,7 @@ ghost use Rattle.brd_summary.specs.Findings.{
   first_text,
   holder_text,
   holders_text,
+  lock_text,
   lost_text,
   more_text,
   next_text,
@@ -25,7 +26,9 @@ use brd_base::{List, NoMemory};
 use brd_board::Board;
 use brd_names::{Names, put, put_count, put_named, put_number, put_signed};
 use brd_seen::{SaidCall, context_advice, error_name};
-use brd_verdicts::{Accounts, LostRaises, Refused, Unit, Units, Wait, circular_wait};
+use brd_verdicts::{
+    Accounts, Lock, LostRaises, Refused, Unit, Units, Wait, circular_wait, is_same,
+};
 use std::alloc::Global;
 
 /// Puts at the end which tasks of a board wait for each other, which calls were refused, and which raises had no
@@ -59,7 +62,7 @@ fn put_circle(
         return Ok(());
     }
     let found = circular_wait(alloc, units, board)?;
-    let taken = units.lock_units(alloc)?;
+    let taken = units.lock_units(alloc, board)?;
     put_waits(alloc, taken.as_slice(), found.as_slice(), out)?;
     Ok(())
 }
@@ -105,19 +108,24 @@ fn put_next(alloc: Global, units: &[Unit], wait: Wait, out: &mut Vec<u8>) -> Res
     put_waiting(alloc, units, wait, out)
 }
 
-/// Puts at the end which semaphore a task waits for, and which tasks have units of it.
+/// Puts at the end which semaphore or mutex a task waits for, and which tasks have units of it.
 fn put_waiting(alloc: Global, units: &[Unit], wait: Wait, out: &mut Vec<u8>) -> Result<(), NoMemory>
     ensures { OnOk result (out.new.items ≡ out.old.items ++ wait_text units.now wait) }
 {
     put_named(alloc, out, "task", u64::from(wait.task))?;
-    put_named(
-        alloc,
-        out,
-        " waits for semaphore",
-        u64::from(wait.semaphore),
-    )?;
+    put_lock(alloc, wait.lock, out)?;
     let held = units_of(alloc, units, wait)?;
     put_holders(alloc, held.as_slice(), out)
+}
+
+/// Puts at the end which semaphore or mutex is waited for.
+fn put_lock(alloc: Global, lock: Lock, out: &mut Vec<u8>) -> Result<(), NoMemory>
+    ensures { OnOk result (out.new.items ≡ out.old.items ++ lock_text lock) }
+{
+    match lock {
+        Lock::Semaphore(id) => put_named(alloc, out, " waits for semaphore", u64::from(id)),
+        Lock::Mutex(id) => put_named(alloc, out, " waits for mutex", u64::from(id)),
+    }
 }
 
 /// The units of what a task waits for.
@@ -137,7 +145,7 @@ fn units_of(alloc: Global, units: &[Unit], wait: Wait) -> Result<List<Unit>, NoM
 fn is_of(wait: Wait, unit: Unit) -> bool
     ensures { result ≡ is_of wait unit }
 {
-    unit.semaphore == wait.semaphore
+    is_same(wait.lock, unit.lock)
 }
 
 /// Puts at the end which tasks have these units.

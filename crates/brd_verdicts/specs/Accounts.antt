@@ -1,5 +1,5 @@
--- What is counted of a run: which tasks have units of semaphores, which calls were refused, and which raises had no
--- effect. What happens in each event is counted once.
+-- What is counted of a run: which tasks have units of semaphores, and mutexes, which calls were refused, and which
+-- raises had no effect. What happens in each event is counted once.
 use Rattle.std.specs.Prelude.{ℕ, ◌+◌, ◌==◌, if◌then◌else◌, List, [], ◌∷◌, replicate}
 use Rattle.brd_board.specs.declared.event.Event.{Event}
 use Rattle.brd_board.specs.Board.{BoardState, happens}

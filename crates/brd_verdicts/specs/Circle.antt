@@ -1,14 +1,15 @@
 -- A circular wait: tasks that wait for each other.
 use Rattle.std.specs.Prelude.{◌≡◌, ℕ, ◌==◌, Bool, true, not, ◌&&◌, ◌||◌, List, All, Decides, Option, None, Some}
 use Rattle.std.specs.List.{Contains, filter, filter_map, list_all, list_any, range_with_len}
-use Rattle.brd_tasks.specs.declared.status.WaitKind.TheVariants.{Semaphore}
+use Rattle.brd_tasks.specs.declared.status.WaitKind.TheVariants as kind
 use Rattle.brd_tasks.specs.declared.status.WaitReason.{WaitReason}
 use Rattle.brd_tasks.specs.declared.status.WaitReason.TheVariants.{On}
 use Rattle.brd_tasks.specs.declared.task.TaskView.{TaskView}
 use Rattle.brd_board.specs.Board.{BoardState, task_of}
 use Rattle.brd_verdicts.specs.declared.circle.Wait.{Wait}
 use Rattle.brd_verdicts.specs.declared.units.{Unit.Unit, Units.Units}
-use Rattle.brd_verdicts.specs.Units.{lock_units}
+use Rattle.brd_verdicts.specs.declared.units.Lock.TheVariants as lock
+use Rattle.brd_verdicts.specs.Units.{is_same, lock_units}
 
 -- a task is one of these that wait
 abbrev pub is_among : List Wait → ℕ → Bool
@@ -16,7 +17,7 @@ is_among those task = list_any (λ wait. wait.task == task) those
 
 -- a unit is one of what a task waits for
 abbrev pub is_of : Wait → Unit → Bool
-is_of wait unit = unit.semaphore == wait.semaphore
+is_of wait unit = is_same wait.lock unit.lock
 
 -- Some task has a unit of what this one waits for, and each that has one is among these.
 abbrev pub is_held : List Unit → List Wait → Wait → Bool
@@ -42,9 +43,11 @@ pub record AreCircular (units : List Unit) (waits found : List Wait) : Type 0 wh
 
 -- ---- on a board
 
--- a task waits without an end for a semaphore
+-- a task waits without an end for a semaphore or a mutex
 abbrev pub wait_for : ℕ → Option WaitReason → Option ℕ → Option Wait
-wait_for task (Some (On Semaphore semaphore)) None = Some (record { task = task; semaphore = semaphore })
+wait_for task (Some (On kind.Semaphore semaphore)) None =
+    Some (record { task = task; lock = lock.Semaphore semaphore })
+wait_for task (Some (On kind.Mutex mutex)) None = Some (record { task = task; lock = lock.Mutex mutex })
 wait_for task reason due = None
 
 abbrev pub wait_by : ℕ → Option TaskView → Option Wait
@@ -58,6 +61,6 @@ wait_in board task = wait_by task (task_of board task)
 abbrev pub waits_of : BoardState → List Wait
 waits_of board = filter_map (wait_in board) (range_with_len 1 255)
 
--- The tasks of a board that wait for each other: for semaphores that serve as locks.
+-- The tasks of a board that wait for each other: for semaphores that serve as locks, and for mutexes.
 abbrev pub IsCircularWait : Units → BoardState → List Wait → Type 0
-IsCircularWait units board found = AreCircular (lock_units units) (waits_of board) found
+IsCircularWait units board found = AreCircular (lock_units units board) (waits_of board) found

@@ -1,5 +1,5 @@
-//! What is counted of a run: which tasks have units of semaphores, which calls were refused, and which raises had no
-//! effect.
+//! What is counted of a run: which tasks have units of semaphores, and mutexes, which calls were refused, and which
+//! raises had no effect.
 
 ghost use Rattle.std.specs.Prelude.{◌≡◌, OnOk};
 ghost use Rattle.brd_verdicts.specs.Accounts.{accounts_of, all_answered, answered, nothing};
@@ -18,7 +18,7 @@ use std::alloc::Global;
 pub struct Accounts {
     /// Where the last wait of each task began, by its ID.
     pub(crate) begun: [u32; 256],
-    /// Which tasks have units of semaphores.
+    /// Which tasks have units of semaphores, and mutexes.
     pub units: Units,
     /// The calls that were refused.
     pub refused: Refusals,

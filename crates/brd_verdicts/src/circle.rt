@@ -13,31 +13,31 @@ ghost use Rattle.brd_verdicts.specs.Circle.{
   waits_of,
 };
 
-use crate::units::{Unit, Units};
+use crate::units::{Lock, Unit, Units, is_same};
 use brd_base::{List, NoMemory};
 use brd_board::{Board, TaskId, WaitKind, WaitReason};
 use std::alloc::Global;
 
-/// A task that waits without an end for a semaphore.
+/// A task that waits without an end for a lock.
 #[derive(Clone, Copy)]
 pub struct Wait {
     /// The task.
     pub task: TaskId,
-    /// The semaphore.
-    pub semaphore: u32,
+    /// The lock.
+    pub lock: Lock,
 }
 
 /// The tasks of a board that wait for each other, by ascending ID: each is one of some that wait without an end for
-/// semaphores that serve as locks, and whose units none but they have.
+/// semaphores that serve as locks, or for mutexes, and which, or whose units, none but they have.
 pub fn circular_wait(alloc: Global, units: &Units, board: &Board) -> Result<List<Wait>, NoMemory>
     ensures { IfOk result (IsCircularWait units.now board.now) }
 {
-    let taken = units.lock_units(alloc)?;
+    let taken = units.lock_units(alloc, board)?;
     let waits = waits_of(alloc, board)?;
     circular(alloc, taken.as_slice(), waits.as_slice())
 }
 
-/// The tasks of a board that wait without an end for a semaphore, by ascending ID.
+/// The tasks of a board that wait without an end for a semaphore or a mutex, by ascending ID.
 fn waits_of(alloc: Global, board: &Board) -> Result<List<Wait>, NoMemory>
     ensures { IfOk result (λ waits. waits ≡ waits_of board.now) }
 {
@@ -58,7 +58,7 @@ fn put_if(waits: &mut List<Wait>, wait: Option<Wait>) -> Result<(), NoMemory>
     }
 }
 
-/// The task of a number, if it waits without an end for a semaphore.
+/// The task of a number, if it waits without an end for a semaphore or a mutex.
 fn wait_in(board: &Board, id: TaskId) -> Option<Wait>
     ensures { result ≡ wait_in board.now id }
 {
@@ -66,14 +66,18 @@ fn wait_in(board: &Board, id: TaskId) -> Option<Wait>
     wait_for(id, view.waiting, view.due)
 }
 
-/// A task, if what it waits for is a semaphore, without an end.
+/// A task, if what it waits for is a semaphore or a mutex, without an end.
 fn wait_for(task: TaskId, waiting: Option<WaitReason>, due: Option<u64>) -> Option<Wait>
     ensures { result ≡ wait_for task waiting due }
 {
     match (waiting, due) {
         (Some(WaitReason::On(WaitKind::Semaphore, semaphore)), None) => Some(Wait {
             task,
-            semaphore: u32::from(semaphore),
+            lock: Lock::Semaphore(u32::from(semaphore)),
+        }),
+        (Some(WaitReason::On(WaitKind::Mutex, mutex)), None) => Some(Wait {
+            task,
+            lock: Lock::Mutex(u32::from(mutex)),
         }),
         _ => None,
     }
@@ -133,7 +137,7 @@ fn are_among(units: &[Unit], those: &[Wait], wait: Wait) -> bool
 fn is_of(wait: Wait, unit: Unit) -> bool
     ensures { result ≡ is_of wait unit }
 {
-    unit.semaphore == wait.semaphore
+    is_same(wait.lock, unit.lock)
 }
 
 /// Whether a task is one of these that wait.

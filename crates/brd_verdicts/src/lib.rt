@@ -22,4 +22,4 @@ pub use deadlock::is_deadlocked;
 pub use losses::{Losses, LostRaises};
 pub use refusals::{Refusals, Refused};
 pub use steps::{Findings, findings_of};
-pub use units::{Unit, Units};
+pub use units::{Lock, Unit, Units, is_same};

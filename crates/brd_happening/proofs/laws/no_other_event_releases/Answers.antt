@@ -1,5 +1,5 @@
 use Rattle.brd_happening.proofs.WaitLemmas.{alone-released}
-use Rattle.brd_happening.proofs.laws.calls_and_ticks_alone_release.Goals as goal
+use Rattle.brd_happening.proofs.laws.no_other_event_releases.Goals as goal
 
 pub returns : goal.returns
 returns c = alone-released
