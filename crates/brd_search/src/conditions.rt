@@ -53,6 +53,7 @@ fn add_conditions(
 }
 
 /// The condition that a text says: two sums with a comparison between them.
+#[tactic(auto, unfolding(crate::specs::Plans::condition_of))]
 fn condition_of(alloc: Global, text: &[u8], symbols: &[Symbol]) -> Result<Condition, SearchFault>
     ensures ok { IfOk result (λ it. plans.condition_of symbols.now text.now ≡ Ok it) }
     ensures err { IfErr result (IsOfCondition symbols.now text.now) }
