@@ -127,3 +127,12 @@ pub term-next : (old new : List Owner) (terms : List Term) (i : ℕ) (it : Term)
 term-next old new terms i it before stays here is within =
     next (IsSharedTerm (sharing_of old)) (IsSharedTerm (sharing_of new)) terms i it
     (λ x. term-stays (sharing_of old) (sharing_of new) x stays) before here is within
+
+-- whatever would stand for a term that isn't there
+pub term-after : (old new : List Owner) (terms : List Term) (i : ℕ) (other : Term) →
+    ((k : ℕ) (d : Term) → k < i → IsSharedTerm (sharing_of old) (get_or terms k d)) → StayShared old new →
+    IsSharedTerm (sharing_of new) (get_or terms i other) → i < length terms → (k : ℕ) (d : Term) → k < i + 1 →
+    IsSharedTerm (sharing_of new) (get_or terms k d)
+term-after old new terms i other before stays here within =
+    term-next old new terms i (get_or terms i other) before stays here (get_or_default terms i other (get_or terms i other) within)
+    within
