@@ -14,8 +14,8 @@
 //             the text of that line where sdk/sourced has put it there
 //   words     address and name of each word that is loaded or stored
 //   deadlock  1 where the board is deadlocked in the end
-//   circle    the tasks that wait for each other then: number, the semaphore that it waits for, and of each unit of
-//             that the task that has taken it, and in which event
+//   circle    the tasks that wait for each other then: number, the semaphore or mutex that it waits for, of each unit
+//             of that the task that has taken it, and in which event, and 1 if it is a mutex
 // A processor is its number, "task", "handler", "idle" or "stopped", the number of the task or of the line, the address
 // of the next instruction, and the registers that aren't 0. A task is its number, state, priority, processor, what it
 // waits for, the object's ID, and the tick that ends the wait.
@@ -490,8 +490,9 @@ function waiting(state) {
       + (due === undefined ? "" : ", until tick " + due), i: since(id, name) }));
 }
 
-// The tasks that wait for each other, of which each waits for a semaphore whose units none but they have.
-const circle = () => run.circle.map(([id, semaphore, units]) => "task " + id + " waits for semaphore " + semaphore
+// The tasks that wait for each other, of which each waits for a semaphore whose units none but they have, or a mutex.
+const circle = () => run.circle.map(([id, lock, units, mutex]) => "task " + id + " waits for "
+  + (mutex ? "mutex " : "semaphore ") + lock
   + ", which " + units.map(([task, at]) => "task " + task + " took at event " + at).join(" and "));
 
 // How many own steps a processor that goes round needs for a round that changes nothing; 0 if none is seen.

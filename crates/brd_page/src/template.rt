@@ -6,7 +6,7 @@ pub(crate) const FRONT: &str = r##"<!DOCTYPE html>
 <head>
 <meta charset="utf-8">
 <meta name="viewport" content="width=device-width, initial-scale=1">
-<meta http-equiv="Content-Security-Policy" content="default-src 'none'; style-src 'sha256-W9botDGDLk0JmGEahRZsutuLH+eaN19tPwnNRcY7WkI='; script-src 'sha256-5sxDRld9Z1byDYXT4uUwCdiBPb9ZwJYbv6mG45YLYhw='; base-uri 'none'; form-action 'none'">
+<meta http-equiv="Content-Security-Policy" content="default-src 'none'; style-src 'sha256-W9botDGDLk0JmGEahRZsutuLH+eaN19tPwnNRcY7WkI='; script-src 'sha256-Bacm6mawGdedABpgj48T3AyjypJBA9/VLKKcA6E3e5Y='; base-uri 'none'; form-action 'none'">
 <title>A run of the board</title>
 <style>/* The look of a page of `board trace --format html`: light or dark as the reader's system is, and for paper. */
 :root {
