@@ -50,7 +50,7 @@ const NEVER: Looks = Looks {
     words: None,
     console: None,
     reach: None,
-    never: Some("1 + 0x2 == 3, 4294967295 + 4294967295 < 4294967296"),
+    never: Some("1 + 0x2 == 3, 4294967295 + 4294967295 < 4294967295"),
 };
 
 const UNSEEN: Looks = Looks {
