@@ -215,13 +215,15 @@ abbrev pub WritesForm : Option TraceFormat → Start → TraceOptions → Option
 WritesForm None start options old new = ⊥
 WritesForm (Some Text) start options old new = WritesTrace start options old new
 WritesForm (Some Json) start options old new =
-    WritesTimeline start.board start.journal.events (first_of options) (end_of options (length start.journal.events)) old
-    new
+    WritesTimeline start.board start.journal.events (first_of options) (end_of options (length start.journal.events))
+    old new
 WritesForm (Some Svg) start options old new =
-    Writes (IsPicture start.board start.journal.events (first_of options) (end_of options (length start.journal.events)))
+    Writes
+    (IsPicture start.board start.journal.events (first_of options) (end_of options (length start.journal.events)))
     old new
 WritesForm (Some Html) start options old new =
-    Writes (IsLastPage start.board start.journal.events (first_of options) (end_of options (length start.journal.events)))
+    Writes
+    (IsLastPage start.board start.journal.events (first_of options) (end_of options (length start.journal.events)))
     old new
 WritesForm (Some Lcov) start options old new = Writes (EndsWith (codes "\n")) old new
 WritesForm (Some Callgrind) start options old new = Writes (EndsWith (codes "\n")) old new

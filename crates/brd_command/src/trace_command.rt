@@ -221,7 +221,8 @@ fn choose(
     board: &Board,
 ) -> Result<(), CommandFault>
     ensures { MatchResult result
-        (λ _. Adds (words_named image.now.symbols board.now (option_map (λ text. text.now) named.entry)) words.old words.new)
+        (λ _. Adds
+        (words_named image.now.symbols board.now (option_map (λ text. text.now) named.entry)) words.old words.new)
         (IsOfWords (words_named image.now.symbols board.now (option_map (λ text. text.now) named.entry))) }
 {
     let Some(text) = named else {

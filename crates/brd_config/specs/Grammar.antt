@@ -264,13 +264,14 @@ IsInside None = ⊥
 IsInside (Some n) = Unit {0}
 
 -- Statements after BOARD, of which the first stands in this class: each class names a processor of the board and is
--- closed again, no class is in a class, BOARD does not come again, a spin lock has no attribute bits, a handler none but
--- the lowest, and a mutex one of four, in the profile alone.
+-- closed again, no class is in a class, BOARD does not come again, a spin lock has no attribute bits, a handler none
+-- but the lowest, and a mutex one of four, in the profile alone.
 -- (The other limits are those of the configuration.)
 abbrev pub AreNested : Bool → ℕ → Option ℕ → List Statement → Type 0
 AreNested standard processors class [] = IsOutside class
 AreNested standard processors class (Board p ram ∷ ss) = ⊥
-AreNested standard processors class (Class n ∷ ss) = IsOutside class × IsWithin 1 processors n × AreNested standard processors (Some n) ss
+AreNested standard processors class (Class n ∷ ss) =
+    IsOutside class × IsWithin 1 processors n × AreNested standard processors (Some n) ss
 AreNested standard processors class (ClassEnd ∷ ss) = IsInside class × AreNested standard processors None ss
 AreNested standard processors class (Task t ∷ ss) = AreNested standard processors class ss
 AreNested standard processors class (Semaphore s ∷ ss) = AreNested standard processors class ss

@@ -265,7 +265,7 @@ has_profile t =
     && is_mark 41 (first (others (others (others t)))).token
     && is_mark 59 (first (others (others (others (others t))))).token
 
--- Whether a text asks for the profile, and the text from BOARD on. Where PROFILE has any other form, it is no statement.
+-- Whether a text asks for the profile, and the text from BOARD on. If PROFILE has any other form, it is no statement.
 unfoldable pub opened : Text → Bool × Text
 opened t = if has_profile t then (true, behind_profile t) else (false, t)
 

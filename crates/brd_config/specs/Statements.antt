@@ -152,7 +152,8 @@ abbrev pub statement_by : Bool → Bool → Token → ℕ → Text → Result (S
 statement_by standard in_class (Run run) line rest = do
   keyword ← or_fault (Syntax line) (keyword_of run)
   behind_keyword standard in_class line keyword rest
-statement_by standard in_class (Mark b) line rest = if in_class && (b == 125) then Ok (ClassEnd, rest) else Err (Syntax line)
+statement_by standard in_class (Mark b) line rest =
+    if in_class && (b == 125) then Ok (ClassEnd, rest) else Err (Syntax line)
 statement_by standard in_class Unclosed line rest = Err (Syntax line)
 statement_by standard in_class End line rest = Err (Syntax line)
 

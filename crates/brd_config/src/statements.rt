@@ -209,7 +209,8 @@ fn behind_keyword(
     keyword: Keyword,
     tokens: &mut Scanner,
 ) -> Result<Statement, ConfigFault>
-    ensures read { Gives (λ s. (s, tokens.new)) result (statements.behind_keyword standard in_class line keyword tokens.old) }
+    ensures read { Gives (λ s. (s, tokens.new)) result
+        (statements.behind_keyword standard in_class line keyword tokens.old) }
     ensures shorter { OnOk result (length tokens.new.tokens < length tokens.old.tokens) }
 {
     match keyword {

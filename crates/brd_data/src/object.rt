@@ -47,8 +47,8 @@ pub(crate) fn read_object<F: Files>(
     files: &mut F,
     named: Named<'_>,
 ) -> Result<Vec<u8>, DataFault>
-    ensures { IfOk result (λ object. IsObjectRead F.opened F.Input.remaining files.old named.entry.name.now named.entry.is_tried
-        object.items files.new) }
+    ensures { IfOk result (λ object. IsObjectRead F.opened F.Input.remaining
+        files.old named.entry.name.now named.entry.is_tried object.items files.new) }
 {
     let mut reader = match files.open(named.name) {
         Ok(reader) => reader,

@@ -157,7 +157,7 @@ acts_taken_back doer (call.CanWup id) log = takes_wake_up doer (named doer id) l
 acts_taken_back doer _ log = log
 
 -- A task ends: its processor is neither CPU-locked nor has dispatching disabled, but nothing is released by that, nor
--- into a spin lock that it holds, nor into the mutexes that it gives back. Where a start of it is queued it starts again.
+-- into a spin lock that it holds, nor into the mutexes that it gives back. If a start of it is queued, it starts again.
 abbrev pub ends : Doer → Log → Log
 ends doer log = starts doer.stamp doer.strand (with_hold doer.cpu free log)
 

@@ -1,6 +1,7 @@
 //! A search that several machines share, by the branches that leave its first schedule.
 
-ghost use Rattle.std.specs.Prelude.{option_map, ◌≡◌, ◌+◌, ◌%◌, ◌<◌, [], ℕ, true, false, length, None, IfOk, IfSome, IfNone};
+ghost use Rattle.std.specs.Prelude.{option_map, ◌≡◌, ◌+◌, ◌%◌, ◌<◌, [], ℕ, true};
+ghost use Rattle.std.specs.Prelude.{false, length, None, IfOk, IfSome, IfNone};
 ghost use Rattle.brd_explore.specs.Schedules.{event_at, start};
 ghost use Rattle.brd_explore.specs.Knowing.{AreDone, KnowsAlong};
 ghost use Rattle.brd_explore.specs.Searching.{IsSized, place_of};

@@ -225,7 +225,8 @@ monitor_of text = monitor_or (or_else (monitor_word text) (or_else (monitor_chan
 
 abbrev pub monitor_packet_of : List ℕ → Option Request
 monitor_packet_of text =
-    if_begins (codes "qRcmd,") (λ digits. option_map (λ bytes. request.Monitor (monitor_of bytes)) (unhexed digits)) text
+    if_begins (codes "qRcmd,")
+    (λ digits. option_map (λ bytes. request.Monitor (monitor_of bytes)) (unhexed digits)) text
     None
 
 abbrev pub request_or : Option Request → Request

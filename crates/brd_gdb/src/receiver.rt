@@ -2,7 +2,8 @@
 
 ghost use Rattle.std.specs.Prelude.{◌≡◌, ◌≤◌, [], false, length, OnOk, IfOk, Some as some};
 ghost use Rattle.brd_text.specs.Numbers.{hex_digit_value};
-ghost use Rattle.brd_gdb.specs.declared.receiver.Part.TheVariants.{Outside as outside, Payload as payload, LastDigit as last_digit};
+ghost use Rattle.brd_gdb.specs.declared.receiver.Part.TheVariants.{Outside as outside, Payload as payload};
+ghost use Rattle.brd_gdb.specs.declared.receiver.Part.TheVariants.{LastDigit as last_digit};
 ghost use Rattle.brd_gdb.specs.Receiving as receiving;
 
 use brd_base::NoMemory;

@@ -231,7 +231,8 @@ fn register_fault(operand: &[u8]) -> Option<&'static [u8]> {
     }
     if first(name) == b'$' {
         return Some(
-            b"~ is no register: there are $0 to $31, and $zero $at $v0 $v1 $a0-$a3 $t0-$t9 $s0-$s8 $k0 $k1 $gp $sp $fp $ra",
+            b"~ is no register: there are $0 to $31, and $zero $at $v0 $v1 $a0-$a3 $t0-$t9 $s0-$s8 $k0 $k1 $gp $sp $fp \
+              $ra",
         );
     }
     if is_letter(first(name)) && register_behind(name).is_some() {

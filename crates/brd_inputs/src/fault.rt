@@ -234,7 +234,8 @@ fn orders(image: Order) -> &'static str {
     match image {
         Order::Big => "it is for little-endian boards, and the object file is big-endian",
         Order::Little => {
-            "it is for big-endian boards, as all with the first line `board-journal 1` are, and the object file is little-endian"
+            "it is for big-endian boards, as all with the first line `board-journal 1` are, and the object file is \
+             little-endian"
         }
     }
 }

@@ -16,10 +16,12 @@ pub enum ScheduleFault {
     #[error("--order is big or little")]
     Order,
     /// A raise.
-    #[error("--raise takes LINE@EVENT, with commas between several, as 4@10,4@20; a line is 0 to 255, an event 1 to 4294967295, each once")]
+    #[error("--raise takes LINE@EVENT, with commas between several, as 4@10,4@20; a line is 0 to 255, an event 1 to \
+         4294967295, each once")]
     Raise,
     /// Weights.
-    #[error("--weights takes a number from 0 to 1000000 for each processor, with commas between them, as 3,1,1, and not all are 0")]
+    #[error("--weights takes a number from 0 to 1000000 for each processor, with commas between them, as 3,1,1, and \
+         not all are 0")]
     Weights,
     /// A chance of more than a thousand in a thousand.
     #[error("--switch is 0 to 1000, in a thousand")]

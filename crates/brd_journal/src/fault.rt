@@ -16,7 +16,8 @@ pub enum JournalFault {
     #[error("its events need more runs than its limit")]
     Full,
     /// A line of the text has none of the forms, or no newline at its end. Lines are counted from 1.
-    #[error("line {line}: expected `board-journal 2 big` or `board-journal 2 little` first, then lines `S CPU COUNT`, `T COUNT` and `R LINE COUNT`")]
+    #[error("line {line}: expected `board-journal 2 big` or `board-journal 2 little` first, then lines `S CPU \
+         COUNT`, `T COUNT` and `R LINE COUNT`")]
     Syntax { line: usize },
 }
 

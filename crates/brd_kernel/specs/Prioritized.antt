@@ -10,7 +10,8 @@ use Rattle.brd_kernel.specs.Waits.{priorities_of}
 -- mutex with TA_CEILING that it has, and of those of the tasks that wait for the mutexes with TA_INHERIT that it has
 abbrev pub HaveTheirPriorities : KernelState → Type 0
 HaveTheirPriorities k =
-    (id : ℕ) (task : Task) → id < 256 → task_at k.tasks id ≡ Some task → task.priority ≡ priority_at (priorities_of k) id
+    (id : ℕ) (task : Task) → id < 256 → task_at k.tasks id ≡ Some task →
+    task.priority ≡ priority_at (priorities_of k) id
 
 -- in a kernel with the profile
 abbrev pub IsPrioritized : KernelState → Type 0

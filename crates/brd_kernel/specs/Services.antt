@@ -4,8 +4,10 @@
 -- no other number without it. A row begins with the object that the call names and refuses nothing but an
 -- ID that is none (E_ID, E_NOEXS); what it fills in is what its line of the table says. T is a task's ID, T0 may be 0
 -- for the caller, L is a spin lock's.
-use Rattle.std.specs.Prelude.{ℕ, zero, suc, ◌+◌, ◌%◌, ◌^◌, ◌-◌, ◌==◌, nat_lt, nat_le, Bool, true, false, not, ◌&&◌, ◌||◌, if◌then◌else◌}
-use Rattle.std.specs.Prelude.{List, [], ◌∷◌, ◌++◌, length, slice_index, slice_set, Option, None, Some, is_some, unwrap_or, Result}
+use Rattle.std.specs.Prelude.{ℕ, zero, suc, ◌+◌, ◌%◌, ◌^◌, ◌-◌, ◌==◌, nat_lt}
+use Rattle.std.specs.Prelude.{nat_le, Bool, true, false, not, ◌&&◌, ◌||◌, if◌then◌else◌}
+use Rattle.std.specs.Prelude.{List, [], ◌∷◌, ◌++◌, length, slice_index, slice_set}
+use Rattle.std.specs.Prelude.{Option, None, Some, is_some, unwrap_or, Result}
 use Rattle.std.specs.Prelude.{Ok, Err}
 use Rattle.brd_tasks.specs.declared.status.Status.{Status}
 use Rattle.brd_tasks.specs.declared.status.Status.TheVariants as status
@@ -38,7 +40,8 @@ use Rattle.brd_objects.specs.DataQueues.{DataQueueState, sent, outcome, forced, 
 use Rattle.brd_objects.specs.DataQueues.{awaited_by_sender, awaited_by_receiver}
 use Rattle.brd_objects.specs.Mutexes.{is_owned_by, owned, next_owner, mutex_awaited}
 use Rattle.brd_time.specs.Time.{due_of}
-use Rattle.brd_kernel.specs.Waits.{forever, is_bad_timeout, due_after, due_by, priority_of, with_wait, released_in, broken_off}
+use Rattle.brd_kernel.specs.Waits.{forever, is_bad_timeout, due_after, due_by, priority_of}
+use Rattle.brd_kernel.specs.Waits.{with_wait, released_in, broken_off}
 use Rattle.brd_kernel.specs.Waits.{reordered_in, with_released, has_mutex_in, given_in, quits_in, base_in, prioritized}
 use Rattle.brd_kernel.specs.declared.processor.Processor.{Processor}
 use Rattle.brd_kernel.specs.declared.processor.Spin.{Spin}
@@ -319,8 +322,8 @@ abbrev pub unmarked_on : KernelState → ℕ → Option Processor → KernelStat
 unmarked_on k cpu None = k
 unmarked_on k cpu (Some p) = with_processor k cpu (unmarked p)
 
--- 3 ext_tsk. Ends the caller, which gives its mutexes back and leaves its processor neither CPU-locked nor with dispatching disabled, and any spin
--- lock free that it holds.
+-- 3 ext_tsk. Ends the caller, which gives its mutexes back and leaves its processor neither CPU-locked nor with
+-- dispatching disabled, and any spin lock free that it holds.
 abbrev pub ext_tsk : KernelState → ℕ → ℕ → Row Task
 ext_tsk k cpu caller = record (on_caller k caller) {
   does = λ task. silent (unmarked_on (quits_in k caller) cpu (processor_at k cpu));

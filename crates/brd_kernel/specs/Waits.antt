@@ -1,6 +1,7 @@
 -- Waits: how they begin, and how they end. What a task waits for stands in its status; it stands in the list of waiters
 -- of that object, and it has a due tick where its wait has an end.
-use Rattle.std.specs.Prelude.{ℕ, zero, suc, ◌+◌, ◌-◌, ◌^◌, ◌==◌, nat_le, nat_lt, Bool, true, false, not, ◌&&◌, if◌then◌else◌, List}
+use Rattle.std.specs.Prelude.{ℕ, zero, suc, ◌+◌, ◌-◌, ◌^◌, ◌==◌, nat_le, nat_lt}
+use Rattle.std.specs.Prelude.{Bool, true, false, not, ◌&&◌, if◌then◌else◌, List}
 use Rattle.std.specs.Prelude.{[], ◌∷◌, Option, None, Some, is_some, replicate, slice_set}
 use Rattle.std.specs.Option.{option_map}
 use Rattle.brd_tasks.specs.declared.status.WaitReason.{WaitReason}
@@ -10,7 +11,8 @@ use Rattle.brd_tasks.specs.declared.status.WaitKind.TheVariants as kind
 use Rattle.brd_tasks.specs.declared.task.Task.{Task}
 use Rattle.brd_tasks.specs.declared.task.TaskView.{TaskView}
 use Rattle.brd_tasks.specs.Status.{waiting_of, is_ready, blocked}
-use Rattle.brd_tasks.specs.Tasks.{TaskTable, task_at, through, released_with, ended, changed, lifted_to, noted, without_activation}
+use Rattle.brd_tasks.specs.Tasks.{TaskTable, task_at, through, released_with, ended}
+use Rattle.brd_tasks.specs.Tasks.{changed, lifted_to, noted, without_activation}
 use Rattle.brd_tasks.specs.Tasks.{view_of}
 use Rattle.brd_time.specs.Time.{Time, due_of, with_due, last_count, advanced, due_from}
 use Rattle.brd_objects.specs.declared.semaphore.Semaphore.{Semaphore}

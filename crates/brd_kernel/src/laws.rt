@@ -40,10 +40,10 @@ pub fn dispatch_gives_each_its_first()
 {}
 
 /// This holds of a kernel as it is made, and every service call, tick and exception keeps it: each task that waits for
-/// a semaphore, for bits of an event flag, for a mutex, or to send to or receive from a data queue stands once, with its priority,
-/// in the waiting list for just that, and in no other waiting list of an object; where that list is in the order of
-/// priority, no task stands in front of one with a higher priority; no task waits for something that it could have at
-/// once; only a task that waits has a due tick, and a delay has one.
+/// a semaphore, for bits of an event flag, for a mutex, or to send to or receive from a data queue stands once, with
+/// its priority, in the waiting list for just that, and in no other waiting list of an object; if that list is in the
+/// order of priority, no task stands in front of one with a higher priority; no task waits for something that it could
+/// have at once; only a task that waits has a due tick, and a delay has one.
 pub fn who_waits_stands_in_its_list()
     ensures made { (standard : Bool) (processors : ℕ) (setups : List SetupOf) (lines : List LineOf)
         (semaphores : List SemaphoreConfig) (flags : List FlagConfig) (queues : List QueueConfig)

@@ -1,6 +1,7 @@
--- Only private contracts name this: what an entry does in a context, one line an entry. It is what its instruction does,
+-- Only private contracts name this: what an entry does in a context, a line each. It is what its instruction does,
 -- with the immediate that is extended already.
-use Rattle.std.specs.Prelude.{◌≡◌, ℕ, ◌%◌, ◌^◌, ◌==◌, nat_lt, bit_and, bit_or, bit_xor, Bool, true, false, if◌then◌else◌}
+use Rattle.std.specs.Prelude.{◌≡◌, ℕ, ◌%◌, ◌^◌, ◌==◌, nat_lt, bit_and}
+use Rattle.std.specs.Prelude.{bit_or, bit_xor, Bool, true, false, if◌then◌else◌}
 use Rattle.std.specs.Prelude.{Option, Some, None}
 use Rattle.std.specs.Int.{w32, bit_not}
 use Rattle.brd_isa.specs.declared.instruction.{ShiftOp.ShiftOp, ShiftVariableOp.ShiftVariableOp, ProductOp.ProductOp}

@@ -33,8 +33,8 @@ impl Decoded {
         }
     }
 
-    /// Does as many lent steps of a context by a window of code, the 64 words from the address `start` on, as there are,
-    /// up to `most` of them. Answers how many.
+    /// Does as many lent steps of a context by a window of code, the 64 words from the address `start` on, as there
+    /// are, up to `most` of them. Answers how many.
     pub fn run(&mut self, context: &mut Context, window: &Window, start: u32, most: u32) -> u32
         requires { start % 256 ≡ 0 }
         ensures { DoesMost window.now start most context.old context.new result }

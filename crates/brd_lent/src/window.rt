@@ -1,6 +1,7 @@
 //! Windows of code.
 
-ghost use Rattle.std.specs.Prelude.{◌≡◌, ◌+◌, ◌%◌, ◌^◌, ◌<◌, ◌≤◌, length, slice_index, Decides, true, false, Some, None, IfSome};
+ghost use Rattle.std.specs.Prelude.{◌≡◌, ◌+◌, ◌%◌, ◌^◌, ◌<◌, ◌≤◌, length, slice_index};
+ghost use Rattle.std.specs.Prelude.{Decides, true, false, Some, None, IfSome};
 ghost use Rattle.brd_mem.specs.Memory.{size_of};
 ghost use Rattle.brd_mem.specs.Window.{words_at, window_at};
 ghost use Rattle.brd_exec.specs.Lent.{word_in};

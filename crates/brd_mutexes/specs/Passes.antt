@@ -1,6 +1,7 @@
 -- How lifted priorities are found: by passes over the tasks that wait. (That they are those of the rule is proved of
 -- `lift`; here they are a function, so that others can name them.)
-use Rattle.std.specs.Prelude.{ℕ, zero, suc, ◌+◌, nat_lt, Bool, false, ◌||◌, if◌then◌else◌, List, [], ◌∷◌, slice_set, Option, None, Some}
+use Rattle.std.specs.Prelude.{ℕ, zero, suc, ◌+◌, nat_lt, Bool, false, ◌||◌, if◌then◌else◌}
+use Rattle.std.specs.Prelude.{List, [], ◌∷◌, slice_set, Option, None, Some}
 use Rattle.std.specs.List.{sum}
 use Rattle.brd_mutexes.specs.Lifting.{priority_at}
 

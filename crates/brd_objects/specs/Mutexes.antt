@@ -1,5 +1,5 @@
--- Mutexes (uITRON 4.0 specification, "Mutexes"): who has one, and the tasks that wait for it. What they do to priorities
--- isn't said here.
+-- Mutexes (uITRON 4.0 specification, "Mutexes"): who has one, and the tasks that wait for it. What they do to
+-- priorities isn't said here.
 use Rattle.std.specs.Prelude.{ℕ, ◌==◌, Bool, false, if◌then◌else◌, List, [], ◌∷◌, Option, None, Some}
 use Rattle.brd_config.specs.declared.objects.MutexConfig.{MutexConfig}
 use Rattle.brd_config.specs.declared.objects.Protocol.{Protocol}
@@ -50,14 +50,12 @@ given m = given_to m m.waiters
 abbrev pub next_owner : Mutex → Option ℕ
 next_owner m = first_in m.waiters
 
--- a task gives it back where it has it
-abbrev pub given_by : ℕ → Mutex → Mutex
-given_by id m = if is_owned_by id m then given m else m
-
 -- a task waits
 abbrev pub mutex_awaited : ℕ → ℕ → Mutex → Mutex
 mutex_awaited id priority m =
-    record m { waiters = placed (protocol_order m.protocol) (record { id = id; priority = priority; wanted = tt }) m.waiters }
+    record m {
+      waiters = placed (protocol_order m.protocol) (record { id = id; priority = priority; wanted = tt }) m.waiters;
+    }
 
 -- a task no longer waits
 abbrev pub mutex_left : ℕ → Mutex → Mutex

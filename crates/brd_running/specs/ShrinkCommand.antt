@@ -101,19 +101,23 @@ pub data ShrinkFilesEnd {F R W : Type 0}
     (old : F) (image config journal : List ℕ) (options : ShrinkOptions) (out before after : Option (List ℕ))
     (result : Result Unit CommandFault) (new : F) : Type 0 where
   over : is_over out image config ≡ true → result ≡ Err (Search search_fault.OverInput) → before ≡ after → new ≡ old →
-      ShrinkFilesEnd opened created closed remaining contents old image config journal options out before after result new
+      ShrinkFilesEnd
+      opened created closed remaining contents old image config journal options out before after result new
   not_opened : {fault : CommandFault} → OpensInputs opened old image config journal (Err fault) new →
       result ≡ Err fault → before ≡ after →
-      ShrinkFilesEnd opened created closed remaining contents old image config journal options out before after result new
+      ShrinkFilesEnd
+      opened created closed remaining contents old image config journal options out before after result new
   no_out : {inputs : Inputs R} {fault : CommandFault} → OpensInputs opened old image config journal (Ok inputs) new →
       IsRefused created new out fault → result ≡ Err fault → before ≡ after →
-      ShrinkFilesEnd opened created closed remaining contents old image config journal options out before after result new
+      ShrinkFilesEnd
+      opened created closed remaining contents old image config journal options out before after result new
   refused : {inputs : Inputs R} {fault : CommandFault} → OpensInputs opened old image config journal (Ok inputs) new →
       IfSome (remaining inputs.image)
       (λ file. IfSome (remaining inputs.config) (λ statements. IfSome (remaining inputs.last) (λ events.
       RefusesShrinking options file statements events fault))) →
       result ≡ Err fault → before ≡ after →
-      ShrinkFilesEnd opened created closed remaining contents old image config journal options out before after result new
+      ShrinkFilesEnd
+      opened created closed remaining contents old image config journal options out before after result new
   shrunk : {inputs : Inputs R} {read : F} (text left : List ℕ) {saved : Result Unit CommandFault}
       (told : Result Unit CommandFault) →
       OpensInputs opened old image config journal (Ok inputs) read →
@@ -122,4 +126,5 @@ pub data ShrinkFilesEnd {F R W : Type 0}
       IsShrunkOf options file statements events left))) →
       Saves created closed contents read out left saved new → AreWritten text told before after →
       result ≡ both saved told →
-      ShrinkFilesEnd opened created closed remaining contents old image config journal options out before after result new
+      ShrinkFilesEnd
+      opened created closed remaining contents old image config journal options out before after result new

@@ -27,8 +27,8 @@ pub enum SearchFault {
     #[error("--raises says how often lines may be raised, and --lines which")]
     NoLines,
     /// Raises aren't told as they should be.
-    #[error("--raises is R or F..R: lines are raised R times at most, and F times before rest is an end, R times if left \
-         out")]
+    #[error("--raises is R or F..R: lines are raised R times at most, and F times before rest is an end, R times if \
+         left out")]
     Raises,
     /// A line is named twice.
     #[error("--lines names a line twice")]
@@ -47,12 +47,12 @@ pub enum SearchFault {
     #[error("--console has a text, in which \\n, \\r, \\t, \\\\ and \\xHH stand for a byte")]
     Console,
     /// A place of an instruction isn't one.
-    #[error("--reach has places of instructions with commas between them, each a symbol of the object file, or 0x and a \
-         hexadecimal address")]
+    #[error("--reach has places of instructions with commas between them, each a symbol of the object file, or 0x and \
+         a hexadecimal address")]
     Reach,
     /// A condition isn't one.
-    #[error("--never has conditions with commas between them, as in1 + in2 > 1: sums of numbers and of words at symbols \
-         of the object file, with <, <=, >, >=, == or != between them")]
+    #[error("--never has conditions with commas between them, as in1 + in2 > 1: sums of numbers and of words at \
+         symbols of the object file, with <, <=, >, >=, == or != between them")]
     Never,
     /// A journal that is made shorter has more events than it may have.
     #[error("the journal has more than 1,000,000 events")]

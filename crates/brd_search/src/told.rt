@@ -143,8 +143,8 @@ fn put_hopeless(
 
 /// What is said where no schedule comes to an end from so many places.
 const HOPELESS: &str =
-    " of them no schedule comes to an end, so nothing that should be so at the end was looked at there; --livelock shows \
-     how one gets there\n";
+    " of them no schedule comes to an end, so nothing that should be so at the end was looked at there; --livelock \
+     shows how one gets there\n";
 
 /// What is said where no place is an end.
 const NO_END_PLACE: &str =

@@ -39,7 +39,8 @@ pub fn stacks_of(
     symbols: &[Symbol],
     config: &Config,
 ) -> Result<List<Stack>, NoMemory>
-    ensures { IfOk result (λ stacks. stacks ≡ stacks_of symbols.now config.now.ram config.now.tasks config.now.handlers) }
+    ensures { IfOk result
+        (λ stacks. stacks ≡ stacks_of symbols.now config.now.ram config.now.tasks config.now.handlers) }
 {
     let mut stacks = List::new(alloc);
     let free = BASE + config.ram;

@@ -1,5 +1,6 @@
 -- The gate of service calls: the call that a context asks for, by its number in $v0 and its arguments in $a0 to $a3.
-use Rattle.std.specs.Prelude.{ℕ, ◌==◌, nat_lt, Bool, true, false, not, ◌&&◌, ◌||◌, if◌then◌else◌, List, [], ◌∷◌, ◌++◌, find, codes}
+use Rattle.std.specs.Prelude.{ℕ, ◌==◌, nat_lt, Bool, true, false, not, ◌&&◌, ◌||◌}
+use Rattle.std.specs.Prelude.{if◌then◌else◌, List, [], ◌∷◌, ◌++◌, find, codes}
 use Rattle.std.specs.Prelude.{slice_index, is_some, Option, None, Some, Result, Ok, Err}
 use Rattle.std.specs.Option.{option_map}
 use Rattle.brd_exec.specs.State.{State, read, advanced}

@@ -152,8 +152,8 @@ impl Kernel {
 
     /// Whether a task has the mutex of an ID, and a priority is higher than its ceiling.
     fn is_over_at(&self, id: TaskId, priority: u8, at: u16) -> bool
-        ensures { result
-            ≡ (has_mutex_in id (object_at self.now.mutexes at) && is_over_mutex priority (object_at self.now.mutexes at)) }
+        ensures { result ≡ (has_mutex_in id (object_at self.now.mutexes at)
+            && is_over_mutex priority (object_at self.now.mutexes at)) }
     {
         self.has_mutex(id, at) && self.is_over_mutex(priority, at)
     }
