@@ -521,7 +521,9 @@ const TURNS: u32 = 1_024;
 /// The same, for so many seconds at most.
 #[derive(Drop)]
 struct Timed<'a, P> {
-    searching: Searching<'a, P>,
+    progress: &'a mut P,
+    /// How many were tried when it was told last.
+    told: u64,
     /// How many seconds the search may take.
     seconds: u32,
     /// How many turns it takes before it is asked anew.
@@ -532,7 +534,8 @@ impl<'a, P: Progress> Timed<'a, P> {
     /// A search that begins.
     fn new(progress: &'a mut P, seconds: u32) -> Timed<'a, P> {
         Timed {
-            searching: Searching::new(progress),
+            progress,
+            told: 0,
             seconds,
             turns: TURNS,
         }
@@ -545,12 +548,15 @@ impl<'a, P: Progress> Watch for Timed<'a, P> {
     ghost may_stop = { true };
 
     fn tried(&mut self, schedules: u64) -> bool {
-        let _ = self.searching.tried(schedules);
+        if schedules / PIECE != self.told / PIECE {
+            self.told = schedules;
+            self.progress.tried(schedules);
+        }
         if self.turns > 0 {
             self.turns -= 1;
             return true;
         }
         self.turns = TURNS;
-        !self.searching.progress.is_over(self.seconds)
+        !self.progress.is_over(self.seconds)
     }
 }
