@@ -247,6 +247,54 @@ ends() {
 ends '"3""4""5""6""7""8""9"' "$work/racy.elf" examples/lost_update/racy.cfg
 ends '"9"' "$work/repaired.elf" examples/lost_update/repaired.cfg
 
+# ---- A task that another one ends while it counts in memory of its own: started again it shows how far it had come.
+
+cat > "$work/ended.s" << 'END'
+own: .word 0
+shown: .word 0
+first: addiu $a0, $0, 2
+addiu $v0, $0, 4                # ter_tsk
+syscall
+addiu $a0, $0, 2
+addiu $v0, $0, 1                # act_tsk
+syscall
+addiu $v0, $0, 3                # ext_tsk
+syscall
+second: lui $s0, %hi(own)
+lw $t0, %lo(own)($s0)
+bne $t0, $0, again
+addiu $t0, $0, 1
+sw $t0, %lo(own)($s0)
+addiu $t0, $0, 2
+sw $t0, %lo(own)($s0)
+addiu $t0, $0, 3
+sw $t0, %lo(own)($s0)
+addiu $v0, $0, 3
+syscall
+again: lw $t0, %lo(own)($s0)
+sw $t0, %lo(shown)($s0)
+addiu $a0, $t0, 48
+addiu $v0, $0, 40               # put_chr
+syscall
+addiu $v0, $0, 3
+syscall
+END
+cat > "$work/ended.cfg" << 'END'
+BOARD(2, 0x10000);
+CRE_TSK(1, {TA_ACT, 0, first, 1, 256, NULL});
+CLASS(TCL_2) { CRE_TSK(2, {TA_ACT, 0, second, 1, 256, NULL}); }
+END
+image=$work/ended.elf
+"$board" asm "$work/ended.s" "$image"
+ends '"""1""2""3"' "$image" "$work/ended.cfg"
+for bounds in "--places 10000" "--preemptions 2"; do
+    read -ra options <<< "$bounds"
+    explores "$image" "$work/ended.cfg" --never "shown == 2" "${options[@]}" --out "$work/found"
+    verdict "explore: a task that is ended, $bounds" "$(is_found $?)$(shown 80000007=02 "$work/ended.cfg" "$work/found")"
+done
+explores "$image" "$work/ended.cfg" --never "shown > 3" --places 10000
+verdict "explore: a task that is ended, none" "$(holds $?)"
+
 # ---- The same board in the other byte order: as many schedules, and the words are those of its own order.
 
 fair=0

@@ -22,7 +22,7 @@ use Rattle.brd_search.specs.Plans.{IsPlan, KeepsFromPlanning}
 use Rattle.brd_search.specs.Searches.{Answers, IsFewest, IsShortest, NoneWithin}
 use Rattle.brd_search.specs.Shown.{shown}
 use Rattle.brd_search.specs.declared.fault.SearchFault.{SearchFault}
-use Rattle.brd_search.specs.declared.fault.SearchFault.TheVariants.{LongBlock, MorePlaces, OverInput, Terminates}
+use Rattle.brd_search.specs.declared.fault.SearchFault.TheVariants.{LongBlock, MorePlaces, OverInput}
 use Rattle.brd_search.specs.declared.fault.SearchFault.TheVariants.{OutOfTime, OutOfTimeAfter, Unlearned}
 use Rattle.brd_search.specs.declared.searching.NoAnswer.{NoAnswer}
 use Rattle.brd_search.specs.declared.searching.NoAnswer.TheVariants as no_answer
@@ -101,7 +101,6 @@ pub record IsTold (options : SearchOptions) (loaded : Loaded) (text : List ℕ) 
 abbrev pub IsUnknown : SearchFault → Type 0
 IsUnknown MorePlaces = Unit {0}
 IsUnknown LongBlock = Unit {0}
-IsUnknown Terminates = Unit {0}
 IsUnknown Unlearned = Unit {0}
 IsUnknown _ = ⊥
 

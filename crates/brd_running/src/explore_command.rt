@@ -388,7 +388,6 @@ fn fault_of(why: Unknown) -> SearchFault
     match why {
         Unknown::Places => SearchFault::MorePlaces,
         Unknown::Long => SearchFault::LongBlock,
-        Unknown::Terminates => SearchFault::Terminates,
         Unknown::Rounds | Unknown::Fair | Unknown::Instruction | Unknown::Waits => {
             SearchFault::Unlearned
         }

@@ -81,9 +81,6 @@ pub enum SearchFault {
     /// There is a block nearly without end, which isn't a loop.
     #[error("not known: a processor executes 16,777,216 instructions in a row that no other can see")]
     LongBlock,
-    /// A task is ended by another one.
-    #[error("not known: a task ends another one by ter_tsk; a search within bounds knows that call")]
-    Terminates,
     /// Something that is not to be expected.
     #[error("not known: it isn't learned who uses which memory")]
     Unlearned,
