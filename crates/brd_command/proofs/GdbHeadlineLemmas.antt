@@ -1,7 +1,7 @@
 -- From an object file that `asm` wrote to what GDB reads of it.
 use Rattle.std.proofs.Common.{◌≡◌, ℕ, ◌+◌, ◌<◌, ◌≤◌, List, [], ◌∷◌, ◌++◌, length, Bool, true, false, refl, sym, ap}
 use Rattle.std.proofs.Common.{subst, ◌∙◌, inl, inr, arith, append_assoc}
-use Rattle.std.specs.Prelude.{◌⊎◌, min, not, ◌&&◌, ◌||◌, nat_le, if◌then◌else◌, slice_index_or, Option, Some, None}
+use Rattle.std.specs.Prelude.{◌⊎◌, ◌-◌, min, not, ◌&&◌, ◌||◌, nat_le, if◌then◌else◌, slice_index_or, Option, Some, None}
 use Rattle.std.specs.Prelude.{IfSome, Result, Ok, Err}
 use Rattle.std.specs.Io.KnownBytes.{Appends}
 use Rattle.std.proofs.lemmas.Bool.{leb-true, leb-false}
@@ -60,18 +60,18 @@ use Rattle.brd_command.proofs.HeadlineLemmas.{IsOf, stands, starts, written_file
 -- ---- where a move ends
 
 -- a debugger has gone to another position of its events, and has the same boot
-record HasGone (d gone : DebuggerState) : Type 0 where
-  boot : gone.boot ≡ d.boot
-  events : gone.events ≡ d.events
-  within : gone.position ≤ length d.events
+pub record HasGone (d gone : DebuggerState) : Type 0 where
+  pub boot : gone.boot ≡ d.boot
+  pub events : gone.events ≡ d.events
+  pub within : gone.position ≤ length d.events
 
-record HasGoneOn (d gone : DebuggerState) : Type 0 where
-  has : HasGone d gone
-  later : d.position ≤ gone.position
+pub record HasGoneOn (d gone : DebuggerState) : Type 0 where
+  pub has : HasGone d gone
+  pub later : d.position ≤ gone.position
 
-record HasGoneBack (d gone : DebuggerState) : Type 0 where
-  has : HasGone d gone
-  earlier : gone.position ≤ d.position
+pub record HasGoneBack (d gone : DebuggerState) : Type 0 where
+  pub has : HasGone d gone
+  pub earlier : gone.position ≤ d.position
 
 on_to : (d : DebuggerState) (n : ℕ) → d.position ≤ n → n ≤ length d.events → HasGoneOn d (moved_to d n)
 on_to d n later within = record { has = record { boot = refl; events = refl; within = within }; later = later }
@@ -403,6 +403,7 @@ module _ (source elf config journal text : List ℕ) (object : IsObjectFile sour
   cut_next : (before answer : List ℕ) (s after : Server) (byte : ℕ) (left : List ℕ) (over : Bool)
       → HasServed first text before s (byte ∷ left) → Serves s byte answer over after
       → ShowsFirstAnswers source elf config journal text (before ++ answer)
+  unfolding answers
   cut_next before answer s after byte left true so_far serves = inl (record {
     before = before;
     answer = answer;
@@ -442,6 +443,7 @@ module _ (source elf config journal text : List ℕ) (object : IsObjectFile sour
 
   pub served : (result : Result Unit CommandFault) (unread : Option (List ℕ))
       → EndsServing result first text unread old new → ShowsUpToEnd result source elf config journal text old new
+  unfolding answers
   served (Ok _) unread writes =
       let are = writes.are_meant in
       record {
