@@ -42,7 +42,7 @@ use Rattle.brd_inputs.specs.declared.start.Start.{Start}
 pub written_file : (source elf : List ℕ) → IsAssembled source elf → IsObjectFile source elf
 written_file source elf is = subst (λ (bytes : List ℕ). IsObjectFile source bytes) (sym is.1.written) is.1.are_meant
 
-starts : (source elf config : List ℕ) (board : BoardState) → IsObjectFile source elf → loaded elf config ≡ Ok board
+pub starts : (source elf config : List ℕ) (board : BoardState) → IsObjectFile source elf → loaded elf config ≡ Ok board
     → Starts source elf config board
 starts source elf config board object h =
     let again : fitting.IsReadAgain source elf object.image =
@@ -86,10 +86,23 @@ run_shows source elf config journal old new assembled ends = record {
 -- ---- `debug`
 
 -- where a debugger is that has done commands: at a position of the same events, over the same boot
-record IsOf (first d : DebuggerState) : Type 0 where
-  boot : d.boot ≡ first.boot
-  events : d.events ≡ first.events
-  within : d.position ≤ length first.events
+pub record IsOf (first d : DebuggerState) : Type 0 where
+  pub boot : d.boot ≡ first.boot
+  pub events : d.events ≡ first.events
+  pub within : d.position ≤ length first.events
+
+-- its board is the headline's
+pub stands : (source elf config : List ℕ) (first d : DebuggerState) → Starts source elf config first.boot → IsOf first d
+    → StandsAt source elf config first.events d
+stands source elf config first d is_started is = record {
+  same = is.events;
+  within = is.within;
+  headline = record {
+    start = first.boot;
+    starts = is_started;
+    is_after = λ i. after (is.boot i) (take d.position (is.events i));
+  };
+}
 
 same_is : (first d next : DebuggerState) → IsOf first d → next ≡ d → IsOf first next
 same_is first d next is same = subst (λ (x : DebuggerState). IsOf first x) (sym same) is
@@ -174,23 +187,13 @@ module _ (source elf config : List ℕ) (first : DebuggerState) (begins : first.
   is_of _ _ _ (one_more_done bytes answer d next command left so_far does) =
       does_is first d command answer next (is_of bytes d (command ∷ left) so_far) does
 
-  stands : (d : DebuggerState) → IsOf first d → StandsAt source elf config first.events d
-  stands d is = record {
-    same = is.events;
-    within = is.within;
-    headline = record {
-      start = first.boot;
-      starts = is_started;
-      is_after = λ i. after (is.boot i) (take d.position (is.events i));
-    };
-  }
-
   pub all_shown : (bytes : List ℕ) (d : DebuggerState) (left : List DebugCommand) → HasDone first commands bytes d left
       → HasShown source elf config first.events first commands bytes d left
   all_shown _ _ _ none_done = nothing_yet
   all_shown _ _ _ (one_more_done bytes answer d next command left so_far does) =
       let is = is_of bytes d (command ∷ left) so_far in
-      one_more bytes answer d next command left (all_shown bytes d (command ∷ left) so_far) (stands d is) does
+      one_more bytes answer d next command left (all_shown bytes d (command ∷ left) so_far)
+      (stands source elf config first d is_started is) does
       (subst (λ (es : List Event). Leads es command d.position answer next.position) is.events
       (leads d command answer next does))
 

@@ -1,3 +1,4 @@
+pub mod GdbHeadlineLemmas
 pub mod HeadlineLemmas
 pub mod JournalLemmas
 pub mod LengthLemmas

@@ -1,4 +1,5 @@
 pub mod GdbCommand
+pub mod GdbHeadline
 pub mod JournalCommand
 pub mod JournalTexts
 pub mod Laws

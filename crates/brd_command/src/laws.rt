@@ -1,22 +1,30 @@
 //! What holds of the definitions, whatever the code does.
 //!
-//! The commands' contracts say how each command ends, by what it read: `AsmEnds`, `RunEnds`, `DebugEnds` and
-//! `RaceEnds`. What follows from these ends, about the files of the commands, is the headline.
+//! The commands' contracts say how each command ends, by what it read: `AsmEnds`, `RunEnds`, `DebugEnds`, `GdbEnds`
+//! and `RaceEnds`. What follows from these ends, about the files of the commands, is the headline.
 
-ghost use Rattle.std.specs.Prelude.{◌≡◌, ◌≢◌, ◌↔◌, ℕ, [], List, Option, Some, Result, Ok, false};
+ghost use Rattle.std.specs.Prelude.{◌≡◌, ◌≢◌, ◌↔◌, ℕ, [], Bool, List, Option, Some, Result, Ok, false};
 ghost use Rattle.brd_board.specs.Board.{BoardState};
+ghost use Rattle.brd_board.specs.declared.event.Event.{Event as EventOf};
+ghost use Rattle.brd_gdb.specs.declared.request.Request.{Request as RequestOf};
 ghost use Rattle.brd_image.specs.Building.{IsBuilt};
 ghost use Rattle.brd_image.specs.declared.fault.BuildFault.{BuildFault as BuildFaultOf};
 ghost use Rattle.brd_running.specs.AsmCommand.{AsmEnds};
 ghost use Rattle.brd_running.specs.DebugGrammar.{Says};
 ghost use Rattle.brd_running.specs.DebugLine.{command_of};
 ghost use Rattle.brd_running.specs.Debugging.{DebugEnds};
-ghost use Rattle.brd_command.specs.Laws.{IsAssembled, ShowsHeadline, ShowsUpToEnd, TellsOfBuilding, TellsOfSource};
+ghost use Rattle.brd_command.specs.GdbCommand.{GdbEnds};
+ghost use Rattle.brd_command.specs.GdbHeadline.{IsRead, ReadsHeadline};
+ghost use Rattle.brd_command.specs.GdbHeadline.{ShowsUpToEnd as ShowsGdbUpToEnd};
+ghost use Rattle.brd_command.specs.Laws.{IsAssembled, ShowsHeadline, ShowsUpToEnd, StandsAt};
+ghost use Rattle.brd_command.specs.Laws.{TellsOfBuilding, TellsOfSource};
 ghost use Rattle.brd_report.specs.Output.{Writes};
 ghost use Rattle.brd_running.specs.RaceCommand.{RaceEnds, ShowsRace};
 ghost use Rattle.brd_running.specs.RunCommand.{RunEnds, ShowsRun};
 ghost use Rattle.brd_running.specs.declared.debug_line.DebugCommand.{DebugCommand};
 ghost use Rattle.brd_running.specs.declared.debug_line.DebugCommand.TheVariants.{Unknown};
+ghost use Rattle.brd_command.specs.Serving.{AnswersPacket};
+ghost use Rattle.brd_command.specs.declared.gdb_server.Server.{Server as ServerOf};
 ghost use Rattle.brd_command.specs.TryCommand.{ShowsTried, Tries};
 ghost use Rattle.brd_inputs.specs.FileKinds.{is_object_file};
 ghost use Rattle.brd_inputs.specs.declared.fault.CommandFault.{CommandFault};
@@ -49,6 +57,21 @@ pub fn debug_shows_the_headline<C>()
         (result : Result Unit CommandFault) (old new : Option (List ℕ)) → IsAssembled source elf →
         remaining input_first ≡ Some text → DebugEnds remaining elf config journal input_first input result old new →
         ShowsUpToEnd result source elf config journal text old new }
+{}
+
+/// The headline of `asm` and `gdb`. Where `asm` wrote an object file for a source, each answer of `gdb` over that file,
+/// a configuration and a journal is that of a session which stands at the position n to which the packets before it
+/// led, and the board of this position is the headline's after the first n of the journal's events. So what a packet
+/// reads, registers of a thread or memory, is that of the headline's board.
+pub fn gdb_shows_the_headline<C>()
+    ensures session { (remaining : C → Option (List ℕ)) (source elf config journal text : List ℕ)
+        (input_first input : C) (result : Result Unit CommandFault) (old new : Option (List ℕ)) →
+        IsAssembled source elf →
+        remaining input_first ≡ Some text → GdbEnds remaining elf config journal input_first input result old new →
+        ShowsGdbUpToEnd result source elf config journal text old new }
+    ensures reads { (source elf config : List ℕ) (events : List EventOf) (request : RequestOf) (s after : ServerOf)
+        (answer : List ℕ) (over : Bool) → IsRead request → StandsAt source elf config events s.session.debugger →
+        AnswersPacket request s answer over after → ReadsHeadline source elf config events request s answer }
 {}
 
 /// A race is its journal's run: for the journal that `race` writes, `run` shows the report that `race` prints, over the
