@@ -445,7 +445,7 @@ is_over() {
         echo -n "; it says $(head -c 300 "$work/err")"
 }
 assembled peterson_right.s
-explores "$image" $examples/peterson.cfg --word inside=0..1 --events 1000 --preemptions 9 --time 1
+explores "$image" $examples/peterson.cfg --word inside=0..1 --events 60 --preemptions 9 --time 2
 verdict "explore: time is over" "$(is_over $?)"
 explores "$image" $examples/peterson.cfg --word inside=0..1 --events 50 --preemptions 2 --time 1000000
 verdict "explore: there is time enough" "$(is_none 836 "at most 50 events, 2 preemptions, 0 ticks and 0 raises" $?)"
