@@ -81,6 +81,22 @@ const FAULTS: &[(SearchOptions<'static>, SearchFault)] = &[
     ),
     (
         SearchOptions {
+            places: 1,
+            time: 1,
+            ..OPTIONS
+        },
+        SearchFault::Places,
+    ),
+    (
+        SearchOptions {
+            shortest: true,
+            time: 1,
+            ..OPTIONS
+        },
+        SearchFault::Time,
+    ),
+    (
+        SearchOptions {
             livelock: true,
             ..OPTIONS
         },

@@ -151,6 +151,7 @@ fn options_of(case: &Case) -> SearchOptions<'static> {
         shortest: true,
         shard: None,
         remember: 0,
+        time: 0,
         places: 0,
         livelock: false,
         finals: false,
