@@ -32,7 +32,9 @@ pub struct Screen<'a> {
     rt: &'a HostRuntime,
     /// Where it is seen whether work is to stop, if it is.
     inbox: Option<Arc<Inbox, Global>>,
-    /// When the program began; `None` where nothing is shown.
+    /// When the program began, if the clock can be read.
+    began: Option<Instant>,
+    /// The same; `None` if nothing is shown.
     start: Option<Instant>,
     /// How long after that it is shown next.
     due: Duration,
@@ -51,11 +53,13 @@ impl<'a> Screen<'a> {
         inbox: Option<Arc<Inbox, Global>>,
         is_dialogue: bool,
     ) -> Screen<'a> {
+        let began = Instant::now(rt).ok();
         Screen {
             rt,
             inbox,
+            began,
             start: if rt.stderr().is_terminal() {
-                Instant::now(rt).ok()
+                began
             } else {
                 None
             },
@@ -121,6 +125,17 @@ impl<'a> Progress for Screen<'a> {
         match &self.inbox {
             Some(inbox) => inbox.is_interrupt_next(),
             None => false,
+        }
+    }
+
+    /// By the clock, from the beginning of the program on.
+    fn is_over(&mut self, seconds: u32) -> bool {
+        let Some(began) = self.began else {
+            return false;
+        };
+        match began.elapsed(self.rt) {
+            Ok(gone) => gone >= Duration::from_secs(u64::from(seconds)),
+            Err(_) => false,
         }
     }
 

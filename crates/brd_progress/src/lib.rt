@@ -21,6 +21,11 @@ pub trait Progress {
         false
     }
 
+    /// Whether so many seconds have gone by since work began. What doesn't say otherwise doesn't know.
+    fn is_over(&mut self, _seconds: u32) -> bool {
+        false
+    }
+
     /// Output is written next, which is to stand alone.
     fn hide(&mut self);
 
