@@ -1,5 +1,7 @@
 //! Standard input. In a dialogue with GDB a thread reads it ahead, so that long work sees whether it is to stop.
 
+ghost use Rattle.std.specs.Prelude.{◌≤◌, length, IfOk};
+
 use std::alloc::{AllocError, Global};
 use std::io::{self, BufReader, ErrorKind, Read};
 use std::sync::{Arc, Condvar, Mutex, Wait};
