@@ -15,5 +15,4 @@ returns-in_ok-show_at-in-Some-clause-greatest c =
 
 pub returns-in_ok-show_at-in-None-clause-greatest : goal.returns-in_ok-show_at-in-None-clause-greatest
 returns-in_ok-show_at-in-None-clause-greatest c =
-    subst (IsGreatestOf c.args.begin c.args.self.now) c.in-None.is
-    (subst (λ (d : DebuggerState). IsGreatestOf c.args.begin d c.in_ok-found.found) c.self.view_is c.in_ok-found.ensures)
+    subst (λ (d : DebuggerState). IsGreatestOf c.args.begin d c.in_ok-found.found) c.self.view_is c.in_ok-found.ensures
