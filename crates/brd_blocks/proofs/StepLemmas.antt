@@ -120,6 +120,7 @@ hidden-step owners b cpu address who set next told keeps hides free =
         apart = λ at touched. hidden-apart owners s b.memory at hides touched;
         keeps = keeps-so owners b who s refl keeps;
         lasting = λ mortal. absurd (false≢true mortal);
+        unseen = λ there is. refl;
       };
       apart = ends;
     }

@@ -53,6 +53,7 @@ sharing_of owners = record {
   shared = λ address. is_shared (owner_at owners address);
   owner = λ address. agent_of (owner_at owners address);
   mortal = λ who. false;
+  seen = λ address. false;
 }
 
 -- all that was shared stays shared

@@ -347,9 +347,7 @@ fn fault_of(why: Unknown) -> SearchFault
         Unknown::Places => SearchFault::MorePlaces,
         Unknown::Long => SearchFault::LongBlock,
         Unknown::Terminates => SearchFault::Terminates,
-        Unknown::Rounds | Unknown::Fair | Unknown::Instruction | Unknown::Waits => {
-            SearchFault::Unlearned
-        }
+        Unknown::Rounds | Unknown::Fair | Unknown::Waits => SearchFault::Unlearned,
     }
 }
 

@@ -61,7 +61,7 @@ pub enum SearchFault {
     #[error("--out names the object file or the configuration")]
     OverInput,
     /// A search without bounds is to do what it doesn't know.
-    #[error("--places goes with none of --fair, --reach, --remember, --shard and --shortest")]
+    #[error("--places goes with none of --fair, --remember, --shard and --shortest")]
     Places,
     /// It is asked for what a search without bounds alone knows.
     #[error("--livelock and --finals go with --places")]
