@@ -78,12 +78,7 @@ fn go_on(
 }
 
 /// Lets a processor go on with a block that has had so few instructions, all of them invisible.
-fn go_far(
-    sharing: &Sharing,
-    wanted: &Wanted,
-    board: &mut Board,
-    cpu: u8,
-) -> Result<Block, NoMemory>
+fn go_far(sharing: &Sharing, wanted: &Wanted, board: &mut Board, cpu: u8) -> Result<Block, NoMemory>
     ensures { (b : BoardOf) → AllStandWell b cpu → HasWalked (sharing_for sharing.now wanted.now) b cpu 1024 board.old →
         IfOk result (WentBy (sharing_for sharing.now wanted.now) b cpu board.new) }
 {

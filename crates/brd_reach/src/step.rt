@@ -9,8 +9,8 @@ ghost use Rattle.brd_reach.specs.Rounds.{are_watching, sharing_for, shown, some_
 
 use brd_blocks::{Sharing, Stepped};
 use brd_board::Board;
-use brd_explore::{Failure, Wanted};
 use brd_exec::Context;
+use brd_explore::{Failure, Wanted};
 
 /// Lets a processor do its next step, and answers what that was: others see it, too, where it comes to an instruction
 /// that failures watch.

@@ -55,7 +55,9 @@ pub(crate) fn visit(
     }
     ways.come(alloc, stop_at(&board, left)?, board.console())?;
     for event in among {
-        match try_event(places, ways, at, &board, left, sharing, words, wanted, *event)? {
+        match try_event(
+            places, ways, at, &board, left, sharing, words, wanted, *event,
+        )? {
             Tried::Done => {}
             Tried::Fails => return Ok(Tried::Fails),
             Tried::Strays(cpu, count) => return Ok(Tried::Strays(cpu, count)),

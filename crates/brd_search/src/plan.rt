@@ -128,10 +128,7 @@ fn check_bounded(asked: bool) -> Result<(), SearchFault>
 fn is_plain(options: &SearchOptions<'_>) -> bool
     ensures { result ≡ is_plain options.now }
 {
-    options.sizes.fair == 0
-        && options.remember == 0
-        && !options.shortest
-        && options.shard.is_none()
+    options.sizes.fair == 0 && options.remember == 0 && !options.shortest && options.shard.is_none()
 }
 
 /// The bounds that options give, with these raises. They ask neither for too many events nor for too much that is
