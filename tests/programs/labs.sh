@@ -16,12 +16,16 @@ solved() {
     cp -r "examples/labs/$1/solution" "$work/mine"
 }
 
+# How long a search may take here: on a machine with much other work the checkers' own 20 seconds may not suffice.
+patient="--seconds 120"
+
 # looked NAME LAB STATUS: what the checker says of $work/mine with the data of seed 7 is, line by line, what stands on
 # standard input.
 looked() {
     local got
     { cat; echo "the data were drawn by --seed 7"; } > "$work/wanted"
-    "examples/labs/$2/check" --seed 7 "$work/mine" > "$work/out" 2> "$work/err"
+    # shellcheck disable=SC2086
+    "examples/labs/$2/check" --seed 7 $patient "$work/mine" > "$work/out" 2> "$work/err"
     got=$?
     check "lab $2: $1" "$3" "$work/wanted" "" $got
     cmp -s "$work/wanted" "$work/out" || diff "$work/wanted" "$work/out" >&2
@@ -30,7 +34,8 @@ looked() {
 # refused NAME LAB TEXT: the checker says that something is missing, and one of its lines begins with TEXT.
 refused() {
     local wrong=
-    "examples/labs/$2/check" --seed 7 "$work/mine" > "$work/out" 2> "$work/err"
+    # shellcheck disable=SC2086
+    "examples/labs/$2/check" --seed 7 $patient "$work/mine" > "$work/out" 2> "$work/err"
     [ $? = 1 ] || wrong="; the status isn't 1"
     cut -c "1-${#3}" "$work/out" | grep -qxF -- "$3" || wrong="$wrong; no line '$3'"
     [ ! -s "$work/err" ] || wrong="$wrong; it says $(head -n 2 "$work/err")"
@@ -49,11 +54,13 @@ for lab in 1 2 3 4 5; do
     solved $lab
     looked "the solution" $lab 0 <<< "lab $lab: nothing is missing"
     for seed in 0 999999999; do
-        "examples/labs/$lab/check" --seed $seed "$work/mine" > "$work/out" 2> "$work/err"
+        # shellcheck disable=SC2086
+        "examples/labs/$lab/check" --seed $seed $patient "$work/mine" > "$work/out" 2> "$work/err"
         printf 'lab %s: nothing is missing\nthe data were drawn by --seed %s\n' $lab $seed > "$work/wanted"
         check "lab $lab: the solution, seed $seed" 0 "$work/wanted" "" $?
     done
-    "examples/labs/$lab/check" "$work/mine" > "$work/out" 2> "$work/err"
+    # shellcheck disable=SC2086
+    "examples/labs/$lab/check" $patient "$work/mine" > "$work/out" 2> "$work/err"
     status=$?
     seed=$(sed -n 's/^the data were drawn by --seed //p' "$work/out")
     printf 'lab %s: nothing is missing\nthe data were drawn by --seed %s\n' $lab "$seed" > "$work/wanted"

@@ -12,12 +12,11 @@ use Rattle.brd_explore.specs.declared.wanted.Failure.{Failure}
 use Rattle.brd_explore.specs.declared.wanted.Failure.TheVariants as failure
 use Rattle.brd_explore.specs.declared.wanted.Wanted.{Wanted}
 use Rattle.brd_frames.specs.Agents.{Agent}
-use Rattle.brd_frames.specs.Apart.{Terminates}
 use Rattle.brd_frames.specs.Going.{IsNext}
 use Rattle.brd_frames.specs.Commuting.{EndsNoLink}
 use Rattle.brd_frames.specs.Lagging.{Sharing, Keeps, IsInvisible, Path}
-use Rattle.brd_frames.specs.Reducing.{IsQuiet}
-use Rattle.brd_blocks.specs.Owning.{sharing_of}
+use Rattle.brd_frames.specs.Reducing.{IsQuiet, EndsMortals}
+use Rattle.brd_blocks.specs.Owning.{Known, sharing_of}
 use Rattle.brd_blocks.specs.Stepping.{AllStandWell}
 use Rattle.brd_blocks.specs.declared.owner.Owner.{Owner}
 use Rattle.brd_blocks.specs.declared.stepped.Stepped.{Stepped}
@@ -91,7 +90,7 @@ Blocks by b cpu Ends =
     (middle : BoardState) (who : Agent) (count : ℕ) → IsNext b cpu who → Path by b who count middle →
     Keeps by middle who
     × (((new : BoardState) × IsInvisible by middle who new × EndsNoLink middle cpu who)
-    ⊎ (Ends (happens middle (Step cpu)).board × ((id : ℕ) → Terminates middle (Step cpu) id → ⊥)))
+    ⊎ (Ends (happens middle (Step cpu)).board × EndsMortals by middle (Step cpu)))
 
 -- Each block of a processor from a board, and each step of it there that is nobody's instruction, leads to a last one.
 pub record LeadsTo (by : Sharing) (b : BoardState) (cpu : ℕ) (last : BoardState) : Type 0 where
