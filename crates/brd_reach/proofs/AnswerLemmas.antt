@@ -88,18 +88,18 @@ fails-last wanted b left none fails =
 -- What a search answers.
 
 -- nobody comes unseen to what a failure watches, if it is one of these
-seen-one : (owners : List Owner) (wanted : Wanted) (f : Failure) →
-    ((address : ℕ) → watches address f ≡ true → some_watch wanted.failures address ≡ true) → IsSeen (sharing_for owners wanted) f
-seen-one owners wanted failure.Exception so = tt
-seen-one owners wanted failure.Deadlock so = tt
-seen-one owners wanted (failure.Console text) so = tt
-seen-one owners wanted (failure.Word address value) so = tt
-seen-one owners wanted (failure.Outside address least most) so = tt
-seen-one owners wanted (failure.Holds condition) so = tt
-seen-one owners wanted failure.On so = tt
-seen-one owners wanted failure.Ended so = tt
-seen-one owners wanted (failure.Unlisted texts) so = tt
-seen-one owners wanted (failure.At address) so = so address (eq-eqb address address refl)
+seen-one : (known : Known) (wanted : Wanted) (f : Failure) →
+    ((address : ℕ) → watches address f ≡ true → some_watch wanted.failures address ≡ true) → IsSeen (sharing_for known wanted) f
+seen-one known wanted failure.Exception so = tt
+seen-one known wanted failure.Deadlock so = tt
+seen-one known wanted (failure.Console text) so = tt
+seen-one known wanted (failure.Word address value) so = tt
+seen-one known wanted (failure.Outside address least most) so = tt
+seen-one known wanted (failure.Holds condition) so = tt
+seen-one known wanted failure.On so = tt
+seen-one known wanted failure.Ended so = tt
+seen-one known wanted (failure.Unlisted texts) so = tt
+seen-one known wanted (failure.At address) so = so address (eq-eqb address address refl)
 
 or-first : (x y : Bool) → x ≡ true → (x || y) ≡ true
 or-first true y is = refl
@@ -114,11 +114,11 @@ any-at has [] k d less is = absurd (omega (arith, less))
 any-at has (x ∷ xs) zero d less is = or-first (has x) (list_any has xs) is
 any-at has (x ∷ xs) (suc k) d less is = or-second (has x) (list_any has xs) (any-at has xs k d (omega (arith, less)) is)
 
-pub guards-so : (owners : List Owner) (wanted : Wanted) → AreGuarded (sharing_of owners) wanted.failures → Guards (sharing_for owners wanted) wanted
-guards-so owners wanted guarded = record {
-  memory = all-stay (sharing_of owners) (sharing_for owners wanted) wanted.failures (λ address is. is) guarded;
+pub guards-so : (known : Known) (wanted : Wanted) → AreGuarded (sharing_of known) wanted.failures → Guards (sharing_for known wanted) wanted
+guards-so known wanted guarded = record {
+  memory = all-stay (sharing_of known) (sharing_for known wanted) wanted.failures (λ address is. is) guarded;
   instructions = λ k d less.
-      seen-one owners wanted (get_or wanted.failures k d) (λ address is. any-at (watches address) wanted.failures k d less is);
+      seen-one known wanted (get_or wanted.failures k d) (λ address is. any-at (watches address) wanted.failures k d less is);
 }
 
 pub holds-so : (by : Sharing) (among : List Event) (wanted : Wanted) (places : List Place) (left : Left) (b : BoardState) → wanted.rounds ≡ 0 →

@@ -21,10 +21,9 @@ use Rattle.brd_frames.specs.Lagging.{Sharing, Keeps, IsInvisible}
 use Rattle.brd_frames.proofs.CommuteLemmas.{agent-steps}
 use Rattle.brd_frames.proofs.LagLemmas.{Leads, leads, leads-kernel}
 use Rattle.brd_frames.proofs.ReduceLemmas.{Like, like-invisible}
-use Rattle.brd_blocks.specs.declared.owner.Owner.{Owner}
 use Rattle.brd_blocks.specs.declared.stepped.Stepped.{Stepped}
 use Rattle.brd_blocks.specs.declared.stepped.Stepped.TheVariants as stepped
-use Rattle.brd_blocks.specs.Owning.{sharing_of}
+use Rattle.brd_blocks.specs.Owning.{Known, sharing_of}
 use Rattle.brd_blocks.specs.Stepping.{IsHidden, IsStepped, IsVisible}
 use Rattle.brd_reach.specs.Rounds.{are_watching, sharing_for, shown, some_watch}
 
@@ -66,26 +65,26 @@ watching by wanted b cpu it gone is =
 
 -- What a step is.
 
-keeps-for : (owners : List Owner) (wanted : Wanted) (b : BoardState) (who : Agent) → Keeps (sharing_of owners) b who →
-    Keeps (sharing_for owners wanted) b who
-keeps-for owners wanted b who it = record { owns = it.owns; alone = it.alone }
+keeps-for : (known : Known) (wanted : Wanted) (b : BoardState) (who : Agent) → Keeps (sharing_of known) b who →
+    Keeps (sharing_for known wanted) b who
+keeps-for known wanted b who it = record { owns = it.owns; alone = it.alone }
 
-keeps-of : (owners : List Owner) (wanted : Wanted) (b : BoardState) (who : Agent) → Keeps (sharing_for owners wanted) b who →
-    Keeps (sharing_of owners) b who
-keeps-of owners wanted b who it = record { owns = it.owns; alone = it.alone }
+keeps-of : (known : Known) (wanted : Wanted) (b : BoardState) (who : Agent) → Keeps (sharing_for known wanted) b who →
+    Keeps (sharing_of known) b who
+keeps-of known wanted b who it = record { owns = it.owns; alone = it.alone }
 
-hidden-for : (owners : List Owner) (wanted : Wanted) (b : BoardState) (cpu : ℕ) →
-    are_watching wanted.failures (registers_of (happens b (Step cpu)).board cpu) ≡ false → IsHidden (sharing_of owners) b cpu →
-    IsHidden (sharing_for owners wanted) b cpu
-hidden-for owners wanted b cpu none it = record {
+hidden-for : (known : Known) (wanted : Wanted) (b : BoardState) (cpu : ℕ) →
+    are_watching wanted.failures (registers_of (happens b (Step cpu)).board cpu) ≡ false → IsHidden (sharing_of known) b cpu →
+    IsHidden (sharing_for known wanted) b cpu
+hidden-for known wanted b cpu none it = record {
   who = it.who;
   next = it.next;
   invisible = record {
     goes = it.invisible.goes;
     apart = it.invisible.apart;
-    keeps = keeps-for owners wanted b it.who it.invisible.keeps;
+    keeps = keeps-for known wanted b it.who it.invisible.keeps;
     lasting = it.invisible.lasting;
-    unseen = λ gone is. sym (watching (sharing_of owners) wanted b cpu it gone is) ∙ none;
+    unseen = λ gone is. sym (watching (sharing_of known) wanted b cpu it gone is) ∙ none;
   };
   apart = it.apart;
 }
@@ -103,44 +102,43 @@ hidden-lasts by b cpu it id ends =
     (sym (ap (λ (done : Happened). done.report) (agent-steps b (happens b (Step cpu)).board cpu it.who it.next it.invisible.goes it.apart))
     ∙ ap (λ n. (happens b (Step n)).report) (same-cpu cpu ends.cpu ends.steps) ∙ ends.calls.steps)
 
-watched-for : (owners : List Owner) (wanted : Wanted) (b : BoardState) (cpu : ℕ) →
-    are_watching wanted.failures (registers_of (happens b (Step cpu)).board cpu) ≡ true → IsHidden (sharing_of owners) b cpu →
-    IsVisible (sharing_for owners wanted) b cpu
-watched-for owners wanted b cpu some it =
+watched-for : (known : Known) (wanted : Wanted) (b : BoardState) (cpu : ℕ) →
+    are_watching wanted.failures (registers_of (happens b (Step cpu)).board cpu) ≡ true → IsHidden (sharing_of known) b cpu →
+    IsVisible (sharing_for known wanted) b cpu
+watched-for known wanted b cpu some it =
     let led : Leads b it.who (happens b (Step cpu)).board = leads b it.who (happens b (Step cpu)).board it.invisible.goes in
     record {
       who = it.who;
       next = it.next;
-      keeps = keeps-for owners wanted b it.who it.invisible.keeps;
+      keeps = keeps-for known wanted b it.who it.invisible.keeps;
       visible = λ new inv. false≢true
-          (sym (inv.unseen led.gone led.means) ∙ sym (watching (sharing_of owners) wanted b cpu it led.gone led.means) ∙ some);
-      lasting = hidden-lasts (sharing_of owners) b cpu it;
+          (sym (inv.unseen led.gone led.means) ∙ sym (watching (sharing_of known) wanted b cpu it led.gone led.means) ∙ some);
+      mortals = λ id ends. absurd (hidden-lasts (sharing_of known) b cpu it id ends);
     }
 
-invisible-of : (owners : List Owner) (wanted : Wanted) (b : BoardState) (who : Agent) (new : BoardState) →
-    IsInvisible (sharing_for owners wanted) b who new → IsInvisible (sharing_of owners) b who new
-invisible-of owners wanted b who new it = record {
+invisible-of : (known : Known) (wanted : Wanted) (b : BoardState) (who : Agent) (new : BoardState) →
+    IsInvisible (sharing_for known wanted) b who new → IsInvisible (sharing_of known) b who new
+invisible-of known wanted b who new it = record {
   goes = it.goes;
   apart = it.apart;
-  keeps = keeps-of owners wanted b who it.keeps;
+  keeps = keeps-of known wanted b who it.keeps;
   lasting = it.lasting;
   unseen = λ gone is. refl;
 }
 
-pub shown-so : (owners : List Owner) (wanted : Wanted) (b : BoardState) (cpu : ℕ) (what : Stepped) (watched : Bool) →
-    are_watching wanted.failures (registers_of (happens b (Step cpu)).board cpu) ≡ watched → IsStepped (sharing_of owners) b cpu what →
-    IsStepped (sharing_for owners wanted) b cpu (shown what watched)
-shown-so owners wanted b cpu stepped.Off watched is it = it
-shown-so owners wanted b cpu stepped.Nothing watched is it = it
-shown-so owners wanted b cpu stepped.Accepted watched is it = it
-shown-so owners wanted b cpu stepped.Invisible true is it = watched-for owners wanted b cpu is it
-shown-so owners wanted b cpu stepped.Invisible false is it = hidden-for owners wanted b cpu is it
-shown-so owners wanted b cpu stepped.Visible watched is it = record {
+pub shown-so : (known : Known) (wanted : Wanted) (b : BoardState) (cpu : ℕ) (what : Stepped) (watched : Bool) →
+    are_watching wanted.failures (registers_of (happens b (Step cpu)).board cpu) ≡ watched → IsStepped (sharing_of known) b cpu what →
+    IsStepped (sharing_for known wanted) b cpu (shown what watched)
+shown-so known wanted b cpu stepped.Off watched is it = it
+shown-so known wanted b cpu stepped.Nothing watched is it = it
+shown-so known wanted b cpu stepped.Accepted watched is it = it
+shown-so known wanted b cpu stepped.Invisible true is it = watched-for known wanted b cpu is it
+shown-so known wanted b cpu stepped.Invisible false is it = hidden-for known wanted b cpu is it
+shown-so known wanted b cpu stepped.Visible watched is it = record {
   who = it.who;
   next = it.next;
-  keeps = keeps-for owners wanted b it.who it.keeps;
-  visible = λ new inv. it.visible new (invisible-of owners wanted b it.who new inv);
-  lasting = it.lasting;
+  keeps = keeps-for known wanted b it.who it.keeps;
+  visible = λ new inv. it.visible new (invisible-of known wanted b it.who new inv);
+  mortals = it.mortals;
 }
-shown-so owners wanted b cpu stepped.Strays watched is it = tt
-shown-so owners wanted b cpu stepped.Terminates watched is it = tt
+shown-so known wanted b cpu stepped.Strays watched is it = tt

@@ -18,7 +18,6 @@ use Rattle.brd_frames.specs.Lagging.{Sharing, Keeps, IsInvisible, Path}
 use Rattle.brd_frames.specs.Reducing.{IsQuiet, EndsMortals}
 use Rattle.brd_blocks.specs.Owning.{Known, sharing_of}
 use Rattle.brd_blocks.specs.Stepping.{AllStandWell}
-use Rattle.brd_blocks.specs.declared.owner.Owner.{Owner}
 use Rattle.brd_blocks.specs.declared.stepped.Stepped.{Stepped}
 use Rattle.brd_blocks.specs.declared.stepped.Stepped.TheVariants as stepped
 use Rattle.brd_places.specs.Places.{Place}
@@ -47,9 +46,9 @@ abbrev pub are_watching : List Failure → Option State → Bool
 are_watching failures None = false
 are_watching failures (Some context) = some_watch failures context.pc
 
--- Who may touch which word, by RAM's words; and nobody comes unseen to an instruction that failures watch.
-abbrev pub sharing_for : List Owner → Wanted → Sharing
-sharing_for owners wanted = record (sharing_of owners) { seen = some_watch wanted.failures }
+-- Who may touch which word, and who is mortal; and nobody comes unseen to an instruction that failures watch.
+abbrev pub sharing_for : Known → Wanted → Sharing
+sharing_for known wanted = record (sharing_of known) { seen = some_watch wanted.failures }
 
 -- what a step is that is this by itself, and may come to an instruction that is watched
 abbrev pub shown : Stepped → Bool → Stepped
