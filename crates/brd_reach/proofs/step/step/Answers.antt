@@ -8,8 +8,8 @@ use Rattle.brd_reach.proofs.step.step.Goals as goal
 pub returns-clause-is : goal.returns-clause-is
 returns-clause-is c = λ set.
     subst (IsStepped (sharing_for c.args.sharing.now c.args.wanted.now) c.args.board.now c.args.cpu) (sym c.shown.ensures)
-    (shown-so c.args.sharing.now c.args.wanted.now c.args.board.now c.args.cpu c.step.result c.are_watching.result
-    (sym (c.are_watching.ensures
+    (shown-so c.args.sharing.now c.args.wanted.now c.args.board.now c.args.cpu c.step-stepped.result c.are_watching-watched.result
+    (sym (c.are_watching-watched.ensures
     ∙ ap (λ failures. are_watching failures c.registers.result) c.as_slice.ensures
     ∙ ap (are_watching c.args.wanted.now.failures) (c.registers.ensures
-    ∙ ap (λ (b : BoardState). registers_of b c.args.cpu) c.step.ensures.board))) (c.step.ensures.is set))
+    ∙ ap (λ (b : BoardState). registers_of b c.args.cpu) c.step-stepped.ensures.board))) (c.step-stepped.ensures.is set))
