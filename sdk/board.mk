@@ -19,6 +19,7 @@
 #   make debug          debugs JOURNAL with the names of C
 #   make gdb            debugs JOURNAL with GDB, forward and backward
 #   make gdb-server     leaves build/gdb-server, for `target remote | build/gdb-server` of a GDB that an editor starts
+#                       (docs/IDE.md); PORT=3333: and serves it at that port of this machine, by socat or ncat
 #   make trace          shows what happens under JOURNAL, with files and lines of C; TRACEFLAGS: `board trace`'s options
 #   make races          shows the data races of JOURNAL, and fails where there is one
 #   make page           leaves JOURNAL as a page for a browser, build/firmware.html
@@ -42,7 +43,7 @@
 # debugged or hunted.
 
 # What others call so in the environment, as GNU time its format, isn't meant for this.
-$(foreach it,TIME DATA COVERAGE REPORTS,$(if $(filter environment,$(origin $(it))),$(eval override undefine $(it))))
+$(foreach it,TIME DATA COVERAGE REPORTS PORT,$(if $(filter environment,$(origin $(it))),$(eval override undefine $(it))))
 
 PROGRAMS ?= firmware
 PROGRAM ?= $(firstword $(PROGRAMS))
@@ -74,6 +75,7 @@ FAIR ?= 0
 LOOK ?=
 GDB ?= gdb-multiarch
 GDBFLAGS ?=
+PORT ?=
 TRACEFLAGS ?=
 BUILD ?= build
 REPORTS ?= $(BUILD)/ci
@@ -232,7 +234,7 @@ gdb-server: all
 	@printf '%s\n' '#!/bin/sh' "cd '$(CURDIR)'" \
 	    "exec '$(BOARD)' gdb '$(IMAGE)' '$(CONFIGURATION)' '$(BUILD)/debug.journal' $(laid)" > $(BUILD)/gdb-server
 	@chmod +x $(BUILD)/gdb-server
-	@echo $(BUILD)/gdb-server
+	@$(if $(PORT),$(SDK)/serve '$(PORT)',echo) $(BUILD)/gdb-server
 
 # For other tools that build (sdk/cmake), a line each: how the names of the tools begin, the flags of the compiler, of the
 # assembler and of the linker, the program, and the C library.

@@ -1,6 +1,6 @@
 #!/bin/bash
-# The documents: the commands that they show, a test for each document; their links; the ways through the code and the
-# picture of the crates of docs/ARCHITECTURE.md.
+# The documents: the commands that they show, a test for each document; their links; what they name; the ways through
+# the code and the picture of the crates of docs/ARCHITECTURE.md.
 # tests/programs/documents.sh PROGRAM
 . "$(dirname "$0")/check.sh"
 
@@ -8,6 +8,7 @@ have python3 "the documents" || { summary; exit; }
 check_script "the walks" tests/programs/walks
 check_script "the picture of the crates" tests/programs/layers --check
 check_script "the links" tests/programs/links
+check_script "the names of files, laws and code" tests/programs/names
 # The table of what the gate costs has a row for each crate, and for no other.
 rows() {
     sed -nE 's/^\| ([a-z0-9]+_[a-z0-9_]+) \|.*/\1/p' tests/gate/gate.table | sort

@@ -122,7 +122,7 @@ without() {
     while [ $# -gt 0 ]; do
         case $1 in
         --shortest) ;;
-        --events | --preemptions | --ticks | --raises | --lines | --shard | --remember) shift ;;
+        --events | --preemptions | --ticks | --raises | --lines | --shard | --remember | --time) shift ;;
         *) options+=("$1") ;;
         esac
         shift
@@ -179,7 +179,7 @@ unbounded() {
     options=()
     while [ $# -gt 0 ]; do
         case $1 in
-        --events | --preemptions | --fair | --shard | --remember) shift ;;
+        --events | --preemptions | --fair | --shard | --remember | --time) shift ;;
         --shortest) ;;
         *) options+=("$1") ;;
         esac
@@ -246,6 +246,54 @@ ends() {
 "$board" asm examples/lost_update/repaired.s "$work/repaired.elf"
 ends '"3""4""5""6""7""8""9"' "$work/racy.elf" examples/lost_update/racy.cfg
 ends '"9"' "$work/repaired.elf" examples/lost_update/repaired.cfg
+
+# ---- A task that another one ends while it counts in memory of its own: started again it shows how far it had come.
+
+cat > "$work/ended.s" << 'END'
+own: .word 0
+shown: .word 0
+first: addiu $a0, $0, 2
+addiu $v0, $0, 4                # ter_tsk
+syscall
+addiu $a0, $0, 2
+addiu $v0, $0, 1                # act_tsk
+syscall
+addiu $v0, $0, 3                # ext_tsk
+syscall
+second: lui $s0, %hi(own)
+lw $t0, %lo(own)($s0)
+bne $t0, $0, again
+addiu $t0, $0, 1
+sw $t0, %lo(own)($s0)
+addiu $t0, $0, 2
+sw $t0, %lo(own)($s0)
+addiu $t0, $0, 3
+sw $t0, %lo(own)($s0)
+addiu $v0, $0, 3
+syscall
+again: lw $t0, %lo(own)($s0)
+sw $t0, %lo(shown)($s0)
+addiu $a0, $t0, 48
+addiu $v0, $0, 40               # put_chr
+syscall
+addiu $v0, $0, 3
+syscall
+END
+cat > "$work/ended.cfg" << 'END'
+BOARD(2, 0x10000);
+CRE_TSK(1, {TA_ACT, 0, first, 1, 256, NULL});
+CLASS(TCL_2) { CRE_TSK(2, {TA_ACT, 0, second, 1, 256, NULL}); }
+END
+image=$work/ended.elf
+"$board" asm "$work/ended.s" "$image"
+ends '"""1""2""3"' "$image" "$work/ended.cfg"
+for bounds in "--places 10000" "--preemptions 2"; do
+    read -ra options <<< "$bounds"
+    explores "$image" "$work/ended.cfg" --never "shown == 2" "${options[@]}" --out "$work/found"
+    verdict "explore: a task that is ended, $bounds" "$(is_found $?)$(shown 80000007=02 "$work/ended.cfg" "$work/found")"
+done
+explores "$image" "$work/ended.cfg" --never "shown > 3" --places 10000
+verdict "explore: a task that is ended, none" "$(holds $?)"
 
 # ---- The same board in the other byte order: as many schedules, and the words are those of its own order.
 
@@ -387,6 +435,24 @@ for of in 1 2 5; do
     verdict "explore: $of shards" "$wrong"
 done
 
+# ---- Seconds: what is known when they are over, and nothing else than without them if they aren't
+
+# is_over STATUS: what is wrong with a search whose time was over after it had found that none fails with some preemptions.
+is_over() {
+    [ "$1" = 2 ] || echo -n "; status $1"
+    [ ! -s "$work/out" ] || echo -n "; it writes $(head -c 300 "$work/out")"
+    grep -qx 'board: the search: not known: --time is over, but none fails with --preemptions [0-9]' "$work/err" ||
+        echo -n "; it says $(head -c 300 "$work/err")"
+}
+assembled peterson_right.s
+explores "$image" $examples/peterson.cfg --word inside=0..1 --events 1000 --preemptions 9 --time 1
+verdict "explore: time is over" "$(is_over $?)"
+explores "$image" $examples/peterson.cfg --word inside=0..1 --events 50 --preemptions 2 --time 1000000
+verdict "explore: there is time enough" "$(is_none 836 "at most 50 events, 2 preemptions, 0 ticks and 0 raises" $?)"
+assembled peterson.s
+explores "$image" $examples/peterson.cfg --word inside=0..1 --events 50 --preemptions 2 --time 1000000 --out "$work/found"
+verdict "explore: what is found in time" "$(is_found $?)"
+
 # ---- Options that have no meaning
 
 assembled lost_update.s
@@ -412,8 +478,8 @@ for wrong in '' count 'count <' '< 2' 'count = 2' 'count => 2' 'count ! 2' 'coun
 done
 refuses "--events is a number from 0 to 1,000,000" --events 1000001
 refuses "--fair is a number of rounds from 0 to 20,000" --fair 20001
-for option in "--fair 1" "--remember 1" "--shard 1/1" --shortest; do
-    refuses "--places goes with none of --fair, --reach, --remember, --shard and --shortest" --places 10 $option
+for option in "--fair 1" "--remember 1" "--shard 1/1" --shortest "--time 1"; do
+    refuses "--places goes with none of --fair, --reach, --remember, --shard, --shortest and --time" --places 10 $option
 done
 refuses "not known: there are more than --places places" --places 1
 refuses "--livelock and --finals go with --places" --livelock
@@ -439,7 +505,8 @@ done
 for wrong in '\' '\q' '\x4' '\xzz'; do
     refuses '--console has a text, in which \n, \r, \t, \\ and \xHH stand for a byte' --console "$wrong"
 done
-for option in --events --preemptions --ticks --fair --remember; do
+refuses "--time doesn't go with --shortest" --shortest --time 1
+for option in --events --preemptions --ticks --fair --remember --time; do
     for wrong in x -1 1.5 4294967296; do
         explores "${files[@]}" $option $wrong
         got=$?

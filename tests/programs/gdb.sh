@@ -1060,28 +1060,10 @@ echo 'print nothing' | sdk/gdb "$board" "$elf" "$cfg" "$journal" > "$work/said" 
 verdict "gdb: a command that fails" "$([ $? = 1 ] && grep -qx 'No symbol "nothing" in current context\.' "$work/said" ||
     cat "$work/said")"
 
-# The settings of docs/GDB.md for Visual Studio Code, by GDB's machine interface.
-cp -r tests/data/gdb/pair "$work/code"
-printf 'SDK = %s\ninclude $(SDK)/board.mk\n' "$sdk" > "$work/code/Makefile"
-make -s -C "$work/code" BOARD="$board" gdb < "$work/nothing" > "$work/made" 2>&1
-sed -n '/^```json$/,/^```$/p' docs/GDB.md | sed '1d;$d' > "$work/launch.json"
-python3 - "$work/launch.json" "$work/code" > "$work/commands" << 'END'
-import json, sys
-with open(sys.argv[1], encoding="utf-8") as file:
-    settings = json.load(file)["configurations"][0]
-for it in settings["customLaunchSetupCommands"]:
-    print(it["text"].replace("${workspaceFolder}", sys.argv[2]))
-print("-list-target-features\n-break-insert weigh\n-exec-continue\n-exec-continue --reverse\n-gdb-exit")
-END
-(cd "$work/code" && BOARD=$board timeout 120 gdb-multiarch -q --interpreter=mi < "$work/commands" > "$work/said" 2>&1)
-verdict "gdb: the settings for Visual Studio Code" "$(
-    grep -q '^\^done,features=.*"reverse"' "$work/said" &&
-        grep -q '^\*stopped,reason="breakpoint-hit",.*func="weigh".*{name="number",value="1"}' "$work/said" &&
-        [ "$(grep -c '^\*stopped,.*func="task_1".*thread-id="1"' "$work/said")" = 2 ] ||
-        cat "$work/made" "$work/said")"
-
 # GDB's text interface, in a terminal.
 if have script "GDB's text interface"; then
+    cp -r tests/data/gdb/pair "$work/code"
+    printf 'SDK = %s\ninclude $(SDK)/board.mk\n' "$PWD/sdk" > "$work/code/Makefile"
     printf '%s\n' 'set confirm off' 'break weigh' continue 'layout regs' quit |
         timeout 120 script -qec "stty rows 40 cols 120; make -s -C '$work/code' BOARD='$board' gdb GDBFLAGS=-tui" \
             /dev/null > "$work/said" 2>&1

@@ -1,8 +1,7 @@
 #!/bin/bash
 # The installation, and other tools with the kit for C: tests/programs/install.sh PROGRAM. What `make install` puts below
 # a prefix, what of it works there without the clone, what `make uninstall` leaves; the package of Debian; pages of the
-# manual and completions beside the help texts; projects by make and by CMake with the installed kit; the files for an
-# editor, as GDB is told by one.
+# manual and completions beside the help texts; projects by make and by CMake with the installed kit.
 . "$(dirname "$0")/check.sh"
 for tool in python3 make; do
     have "$tool" "the installation" || { summary; exit; }
@@ -151,6 +150,7 @@ prefix=$work/place
 new=$work/new
 "$prefix/bin/board-new" "$new" > "$work/out" 2>&1
 verdict "board-new" "$(grep -qx "SDK = $prefix/share/board/sdk" "$new/Makefile" || cat "$work/out" "$new/Makefile")"
+verdict "board-new: the files for an editor" "$(diff -r sdk/project/.vscode "$new/.vscode")"
 make -s -C "$new" ci > "$work/out" 2>&1 < "$work/nothing"
 verdict "a project with the installed kit" "$([ $? = 0 ] && [ "$(grep -c '^ok: ' "$work/out")" = 3 ] || cat "$work/out")"
 make -s -C "$new" test LIBC=1 > "$work/out" 2>&1 < "$work/nothing"
@@ -158,42 +158,6 @@ verdict "where it looks for a C library" "$(
     grep -q "^there is no C library for ORDER=big yet, which this makes: $prefix/share/board/sdk/libc big\$" "$work/out" &&
         [ "$(make -s -C "$new" settings | tail -n 1)" = "$HOME/.cache/board/libc/big" ] || cat "$work/out")"
 verdict "nothing was written into the kit" "$(find "$prefix" -newer "$new/Makefile" -type f)"
-
-# What an editor does: its files name targets that are there, and GDB takes the server by the commands for it.
-verdict "the files for an editor" "$(python3 - "$new" 2>&1 << 'END'
-import json, re, subprocess, sys
-tasks, launch = (json.load(open(f"{sys.argv[1]}/.vscode/{it}.json")) for it in ("tasks", "launch"))
-for it in tasks["tasks"]:
-    ran = subprocess.run([*it["command"].split(), "-n"], cwd=sys.argv[1], stdout=subprocess.PIPE, stderr=subprocess.STDOUT)
-    if ran.returncode != 0:
-        print(it["label"], ran.stdout.decode())
-labels = [it["label"] for it in tasks["tasks"]]
-for it in launch["configurations"]:
-    if it["preLaunchTask"] not in labels:
-        print("no task", it["preLaunchTask"])
-# What a problem looks like is what the kit prints.
-patterns = [it["pattern"]["regexp"] for task in tasks["tasks"] for it in task["problemMatcher"] if isinstance(it, dict)]
-texts = ("firmware.cfg:5: this kernel hasn't CRE_CYC", "firmware.c:7: this doesn't hold: line != BUTTON (handler of line 3)")
-for pattern, text in zip(patterns, texts):
-    if not re.search(pattern, text):
-        print(pattern, "isn't", text)
-END
-)"
-if have gdb-multiarch "GDB, as an editor starts it"; then
-    make -s -C "$new" gdb-server > "$work/out" 2>&1
-    {
-        python3 -c "
-import json, sys
-for it in json.load(open(sys.argv[1]))['configurations'][0]['customLaunchSetupCommands']:
-    print(it['text'])" "$new/.vscode/launch.json"
-        printf '%s\n' '-break-insert greet' -exec-continue '-exec-next' '-exec-next --reverse' '-data-evaluate-expression times' \
-            -gdb-exit
-    } > "$work/in"
-    (cd "$new" && timeout 60 gdb-multiarch -nx -q -i=mi < "$work/in" > "$work/out" 2>&1)
-    verdict "GDB, as an editor starts it" "$(
-        grep -q '^\^connected' "$work/out" && grep -q 'reason="breakpoint-hit".*func="greet"' "$work/out" &&
-            grep -q '^\^done,value="3"' "$work/out" && ! grep -q '^\^error' "$work/out" || cat "$work/out")"
-fi
 
 # ---- CMake
 

@@ -9,8 +9,9 @@ use Rattle.brd_kernel.specs.declared.call.Call.TheVariants as call
 use Rattle.brd_kernel.specs.declared.call.Ercd.{Ercd}
 use Rattle.brd_sysgate.specs.declared.gate.Agent.{Agent}
 use Rattle.brd_sysgate.specs.declared.gate.Caller.{Caller}
-use Rattle.brd_sysgate.specs.Gate.{Service, table_of, row_in, arguments_of, may_call, allowed, read_of}
-use Rattle.brd_blocks.specs.Looking.{asks_ter_tsk}
+use Rattle.brd_sysgate.specs.declared.place.Place.TheVariants as place
+use Rattle.brd_sysgate.specs.Gate.{Service, a0, table_of, row_in, asked_in, arguments_of, may_call, allowed, read_of}
+use Rattle.brd_blocks.specs.Looking.{asks_ter_tsk, asks_of}
 use Rattle.brd_blocks.proofs.OwnLemmas.{and-left, and-right}
 
 abbrev is_ter : Call → Bool
@@ -80,9 +81,26 @@ row-fourth a number name id agent services (Some s) only is asks =
     found-fourth a number services s only is
     (ap is_ter (allowed-call (may_call agent s.place name) (s.call a) (call.TerTsk id) asks))
 
+-- The task that the call names.
+
+fourth-names : (standard : Bool) (agent : Agent) (name id : ℕ) (a : List ℕ) →
+    allowed agent name (asked_in (table_of standard) 4 a) ≡ Ok (call.TerTsk id) → call.TerTsk (a0 a) ≡ call.TerTsk id
+fourth-names true agent name id a asks = allowed-call (may_call agent place.Task name) (call.TerTsk (a0 a)) (call.TerTsk id) asks
+fourth-names false agent name id a asks = allowed-call (may_call agent place.Task name) (call.TerTsk (a0 a)) (call.TerTsk id) asks
+
+same-id : (one other : ℕ) → call.TerTsk one ≡ call.TerTsk other → one ≡ other
+same-id one other is = cc
+
 pub ter-asked : (s : State) (caller : Caller) (id : ℕ) → read_of s caller ≡ Ok (call.TerTsk id) → asks_ter_tsk s ≡ true
 ter-asked s caller id asks =
     eq-eqb (read s 2) 4
     (row-fourth (arguments_of s) (read s 2) (read s 4) id caller.agent (table_of caller.standard)
     (row_in (table_of caller.standard) (read s 2))
     (table-fourth caller.standard (read s 4) (read s 5) (read s 6) (read s 7)) refl asks)
+
+pub ter-named : (s : State) (caller : Caller) (id : ℕ) → read_of s caller ≡ Ok (call.TerTsk id) → asks_of s ≡ id
+ter-named s caller id asks =
+    let fourth : read s 2 ≡ 4 = eqb-true (read s 2) 4 (ter-asked s caller id asks) in
+    same-id (asks_of s) id
+    (fourth-names caller.standard caller.agent (read s 4) id (arguments_of s)
+    (subst (λ n. allowed caller.agent (read s 4) (asked_in (table_of caller.standard) n (arguments_of s)) ≡ Ok (call.TerTsk id)) fourth asks))

@@ -6,7 +6,7 @@ use Rattle.std.proofs.lemmas.List.{get_or-set_other, get_or-set_same, get_or_pas
 use Rattle.brd_base.specs.Space.{base}
 use Rattle.brd_blocks.specs.declared.owner.Owner.{Owner}
 use Rattle.brd_blocks.specs.declared.owner.Owner.TheVariants as owner
-use Rattle.brd_blocks.specs.Owning.{is_shared, owner_at, StayShared}
+use Rattle.brd_blocks.specs.Owning.{is_shared, owner_at, WordsStayShared}
 use Rattle.brd_blocks.proofs.OwnLemmas.{inside, outside}
 
 at-set : (owners : List Owner) (place at : ℕ) (to : Owner) (same : Bool) → (at == place) ≡ same →
@@ -20,7 +20,7 @@ at-set owners place at to false is private shared =
 
 -- what was shared stays so where a word is given that wasn't
 pub given-stay : (owners : List Owner) (place : ℕ) (to : Owner) → is_shared (slice_index_or owners place owner.Shared) ≡ false →
-    StayShared owners (slice_set owners place to)
+    WordsStayShared owners (slice_set owners place to)
 given-stay owners place to private address shared =
     elim (cases_lt address base) [
       | inl below ↦ ap is_shared (outside (slice_set owners place to) address below)

@@ -12,13 +12,13 @@ use Rattle.brd_frames.specs.Lagging.{Keeps}
 use Rattle.brd_blocks.specs.declared.owner.Owner.{Owner}
 use Rattle.brd_blocks.specs.declared.owner.Owner.TheVariants as owner
 use Rattle.brd_blocks.specs.declared.footprint.Access.{Access}
-use Rattle.brd_blocks.specs.Owning.{is_shared, owner_of, may_store, may_touch, owner_at, sharing_of}
+use Rattle.brd_blocks.specs.Owning.{Known, is_shared, owner_of, may_store, may_touch, owner_at, sharing_of}
 use Rattle.brd_blocks.specs.Footprint.{access_of}
 use Rattle.brd_blocks.specs.Looking.{may_touch_both, may_store_both, are_private, access_keeps, access_hides, keeps_by, hides_by}
 use Rattle.brd_blocks.proofs.TouchLemmas.{touched, storing, ends-touched, fetch-touched}
 use Rattle.brd_blocks.proofs.OwnLemmas.{and-left, and-right, of-both, may-own, may-alone}
 
-not-true : (x : Bool) → not x ≡ true → x ≡ false
+pub not-true : (x : Bool) → not x ≡ true → x ≡ false
 not-true true is = absurd (false≢true is)
 not-true false is = refl
 
@@ -73,9 +73,10 @@ may-store owners me s memory address keeps is =
     (and-right (may_touch_both owners me s.pc (s.pc + 3)) (access_keeps owners me access) keeps)))
     both.0.from both.0.to both.0.short
 
-pub keeps-so : (owners : List Owner) (b : BoardState) (who : Agent) (s : State) → context_in b.kernel who ≡ s →
-    keeps_by owners (owner_of who) s.pc (access_of s b.memory) ≡ true → Keeps (sharing_of owners) b who
-keeps-so owners b who s same keeps =
+pub keeps-so : (known : Known) (b : BoardState) (who : Agent) (s : State) → context_in b.kernel who ≡ s →
+    keeps_by known.owners (owner_of who) s.pc (access_of s b.memory) ≡ true → Keeps (sharing_of known) b who
+keeps-so known b who s same keeps =
+    let owners : List Owner = known.owners in
     let kept : keeps_by owners (owner_of who) (context_in b.kernel who).pc (access_of (context_in b.kernel who) b.memory) ≡ true =
     subst (λ c. keeps_by owners (owner_of who) c.pc (access_of c b.memory) ≡ true) (sym same) keeps in
     record {

@@ -1,6 +1,7 @@
 pub mod TouchLemmas
 pub mod OwnLemmas
 pub mod GiveLemmas
+pub mod MortalLemmas
 pub mod KeepLemmas
 pub mod NextLemmas
 pub mod LinkLemmas

@@ -17,7 +17,7 @@ use Rattle.brd_blocks.specs.declared.footprint.Access.{Access}
 use Rattle.brd_blocks.specs.declared.look.Look.{Look}
 use Rattle.brd_blocks.specs.declared.stepped.Stepped.{Stepped}
 use Rattle.brd_blocks.specs.declared.stepped.Stepped.TheVariants as stepped
-use Rattle.brd_blocks.specs.Owning.{is_shared, may_store, may_touch, owner_at}
+use Rattle.brd_blocks.specs.Owning.{Known, is_shared, may_store, may_touch, owner_at, is_mortal}
 use Rattle.brd_blocks.specs.Footprint.{access_of}
 
 -- The words of two addresses.
@@ -82,9 +82,23 @@ me_on cpu (Some doing) = me_standing cpu doing
 abbrev pub has_place : State → Bool
 has_place s = not (s.pc == 0) || not (read s 29 == 0)
 
--- the number of ter_tsk
+-- the number of ter_tsk, and the task that it is asked of
 abbrev pub asks_ter_tsk : State → Bool
 asks_ter_tsk s = read s 2 == 4
+
+abbrev pub asks_of : State → ℕ
+asks_of s = read s 4
+
+-- it is asked of one of which isn't known that others may terminate it
+abbrev pub surprises : List Bool → State → Bool
+surprises mortals s = asks_ter_tsk s && not (is_mortal mortals (asks_of s))
+
+-- who executes is a task that others may terminate
+abbrev pub is_mortal_owner : List Bool → Owner → Bool
+is_mortal_owner mortals owner.Nobody = false
+is_mortal_owner mortals (owner.Task id) = is_mortal mortals id
+is_mortal_owner mortals (owner.Handler cpu) = false
+is_mortal_owner mortals owner.Shared = false
 
 abbrev pub keeps_by : List Owner → Owner → ℕ → Option Access → Bool
 keeps_by owners me pc access = may_touch_both owners me pc (pc + 3) && access_keeps owners me access
@@ -92,21 +106,21 @@ keeps_by owners me pc access = may_touch_both owners me pc (pc + 3) && access_ke
 abbrev pub hides_by : List Owner → ℕ → Option Access → Bool
 hides_by owners pc access = are_private owners pc (pc + 3) && access_hides owners access
 
-abbrev pub look_by : List Owner → BoardState → ℕ → Owner → State → Look
-look_by owners b cpu me s = record {
-  keeps = keeps_by owners me s.pc (access_of s b.memory);
-  hidden = hides_by owners s.pc (access_of s b.memory);
+abbrev pub look_by : Known → BoardState → ℕ → Owner → State → Look
+look_by known b cpu me s = record {
+  keeps = keeps_by known.owners me s.pc (access_of s b.memory);
+  hidden = not (is_mortal_owner known.mortals me) && hides_by known.owners s.pc (access_of s b.memory);
   unlinked = access_spares b cpu (access_of s b.memory);
-  terminates = asks_ter_tsk s;
+  surprises = surprises known.mortals s;
 }
 
-abbrev pub look_in : List Owner → BoardState → ℕ → Option Owner → Option State → Option Look
-look_in owners b cpu None context = None
-look_in owners b cpu (Some me) None = None
-look_in owners b cpu (Some me) (Some s) = if has_place s then Some (look_by owners b cpu me s) else None
+abbrev pub look_in : Known → BoardState → ℕ → Option Owner → Option State → Option Look
+look_in known b cpu None context = None
+look_in known b cpu (Some me) None = None
+look_in known b cpu (Some me) (Some s) = if has_place s then Some (look_by known b cpu me s) else None
 
-abbrev pub look_of : List Owner → BoardState → ℕ → Option Look
-look_of owners b cpu = look_in owners b cpu (me_on cpu (standing_of b cpu)) (registers_of b cpu)
+abbrev pub look_of : Known → BoardState → ℕ → Option Look
+look_of known b cpu = look_in known b cpu (me_on cpu (standing_of b cpu)) (registers_of b cpu)
 
 -- What a step was that was looked at so before it.
 
@@ -115,8 +129,7 @@ ran_of unlinked = if unlinked then stepped.Invisible else stepped.Strays
 
 abbrev pub done_by : Look → Bool → Bool → Stepped
 done_by look calls goes_on =
-    if not look.keeps then stepped.Strays
-    else if calls && look.terminates then stepped.Terminates
+    if not look.keeps || (calls && look.surprises) then stepped.Strays
     else if goes_on && look.hidden then ran_of look.unlinked
     else stepped.Visible
 

@@ -1,4 +1,4 @@
--- Who may touch which word of RAM.
+-- Who may touch which word of RAM, and which tasks others may terminate.
 use Rattle.std.specs.Prelude.{◌≡◌, ℕ, ◌-◌, ◌/◌, ◌==◌, nat_le, Bool, true, false, ◌||◌, if◌then◌else◌}
 use Rattle.std.specs.Prelude.{List, slice_index_or, Option, None, Some}
 use Rattle.brd_base.specs.Space.{base}
@@ -47,17 +47,44 @@ abbrev pub owner_at : List Owner → ℕ → Owner
 owner_at owners address =
     if nat_le base address then slice_index_or owners ((address - base) / 4) owner.Shared else owner.Shared
 
--- the same of each address
-abbrev pub sharing_of : List Owner → Sharing
-sharing_of owners = record {
-  shared = λ address. is_shared (owner_at owners address);
-  owner = λ address. agent_of (owner_at owners address);
-  mortal = λ who. false;
+-- whether others may terminate a task, by the tasks of which that is known; of one beyond them it is assumed
+abbrev pub is_mortal : List Bool → ℕ → Bool
+is_mortal mortals id = slice_index_or mortals id true
+
+-- nobody terminates a handler
+abbrev pub is_mortal_agent : List Bool → Agent → Bool
+is_mortal_agent mortals (agents.Task id) = is_mortal mortals id
+is_mortal_agent mortals (agents.Handler cpu) = false
+
+-- what is known: the owners of RAM's words, and of the tasks by ID whether others may terminate them
+pub record Known : Type 0 where
+  pub owners : List Owner
+  pub mortals : List Bool
+
+-- the same of each address and each agent
+abbrev pub sharing_of : Known → Sharing
+sharing_of known = record {
+  shared = λ address. is_shared (owner_at known.owners address);
+  owner = λ address. agent_of (owner_at known.owners address);
+  mortal = is_mortal_agent known.mortals;
 }
 
 -- all that was shared stays shared
 abbrev pub StaysShared : Sharing → Sharing → Type 0
 StaysShared old new = (address : ℕ) → old.shared address ≡ true → new.shared address ≡ true
 
-abbrev pub StayShared : List Owner → List Owner → Type 0
+abbrev pub StayShared : Known → Known → Type 0
 StayShared old new = StaysShared (sharing_of old) (sharing_of new)
+
+-- each agent that was mortal stays so
+abbrev pub StayMortal : Known → Known → Type 0
+StayMortal old new = (who : Agent) → (sharing_of old).mortal who ≡ true → (sharing_of new).mortal who ≡ true
+
+-- the same of words alone, and of tasks alone
+
+abbrev pub WordsStayShared : List Owner → List Owner → Type 0
+WordsStayShared old new =
+    (address : ℕ) → is_shared (owner_at old address) ≡ true → is_shared (owner_at new address) ≡ true
+
+abbrev pub TasksStayMortal : List Bool → List Bool → Type 0
+TasksStayMortal old new = (id : ℕ) → is_mortal old id ≡ true → is_mortal new id ≡ true

@@ -1,4 +1,4 @@
--- What a step of a processor is, by who may touch which word.
+-- What a step of a processor is, by who may touch which word, and who is mortal.
 use Rattle.std.specs.Prelude.{◌≡◌, ◌≤◌, ℕ, true, Some}
 use Rattle.brd_link.specs.LinkSet.{IsLinkSet}
 use Rattle.brd_kernel.specs.declared.processor.Executor.{Executor}
@@ -9,12 +9,12 @@ use Rattle.brd_board.specs.declared.event.Event.{Event}
 use Rattle.brd_board.specs.declared.event.Event.TheVariants.{Step}
 use Rattle.brd_board.specs.Board.{BoardState, happens}
 use Rattle.brd_frames.specs.Agents.{Agent, agent_by}
-use Rattle.brd_frames.specs.Apart.{is_steady, Terminates}
+use Rattle.brd_frames.specs.Apart.{is_steady}
 use Rattle.brd_frames.specs.Ending.{is_live_at}
 use Rattle.brd_frames.specs.Going.{IsNext}
 use Rattle.brd_frames.specs.Commuting.{EndsNoLink}
 use Rattle.brd_frames.specs.Lagging.{Sharing, Keeps, IsInvisible}
-use Rattle.brd_frames.specs.Reducing.{IsQuiet}
+use Rattle.brd_frames.specs.Reducing.{IsQuiet, EndsMortals}
 use Rattle.brd_blocks.specs.declared.stepped.Stepped.{Stepped}
 use Rattle.brd_blocks.specs.declared.stepped.Stepped.TheVariants as stepped
 
@@ -30,13 +30,14 @@ pub record IsHidden (by : Sharing) (b : BoardState) (cpu : ℕ) : Type 0 where
   pub invisible : IsInvisible by b who (happens b (Step cpu)).board
   pub apart : EndsNoLink b cpu who
 
--- A step is an instruction of an agent that keeps to the sharing, but isn't invisible, and terminates nobody.
+-- A step is an instruction of an agent that keeps to the sharing, but isn't invisible, and terminates nobody who isn't
+-- mortal.
 pub record IsVisible (by : Sharing) (b : BoardState) (cpu : ℕ) : Type 0 where
   pub who : Agent
   pub next : IsNext b cpu who
   pub keeps : Keeps by b who
   pub visible : (new : BoardState) → IsInvisible by b who new → ⊥
-  pub lasting : (id : ℕ) → Terminates b (Step cpu) id → ⊥
+  pub mortals : EndsMortals by b (Step cpu)
 
 -- what a step was that is said to be so
 abbrev pub IsStepped : Sharing → BoardState → ℕ → Stepped → Type 0
@@ -46,7 +47,6 @@ IsStepped by b cpu stepped.Accepted = IsQuiet b (Step cpu)
 IsStepped by b cpu stepped.Invisible = IsHidden by b cpu
 IsStepped by b cpu stepped.Visible = IsVisible by b cpu
 IsStepped by b cpu stepped.Strays = Unit {0}
-IsStepped by b cpu stepped.Terminates = Unit {0}
 
 -- Who executes on a processor has a context, and is steady; a task that does isn't dormant.
 pub record StandsWell (b : BoardState) (cpu : ℕ) (who : Executor) : Type 0 where

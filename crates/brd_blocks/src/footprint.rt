@@ -1,6 +1,7 @@
 //! What an instruction loads or stores.
 
 ghost use Rattle.std.specs.Prelude.{◌≡◌};
+ghost use Rattle.brd_board.specs.Words.{word_at};
 ghost use Rattle.brd_blocks.specs.Footprint.{access_by, access_in, access_of, first_of, last_of, stands_for};
 
 use brd_board::Board;
@@ -25,8 +26,14 @@ pub(crate) struct Access {
 pub(crate) fn access_of(board: &Board, context: &Context) -> Option<Access>
     ensures { result ≡ access_of context.now board.now.memory }
 {
-    let word = board.aligned_word(context.pc());
-    access_by(context, &stands_for(word))
+    access_by(context, &insn_of(board, context))
+}
+
+/// The next instruction of a context.
+pub(crate) fn insn_of(board: &Board, context: &Context) -> Option<Insn>
+    ensures { result ≡ stands_for (word_at board.now.memory context.now.pc) }
+{
+    stands_for(board.aligned_word(context.pc()))
 }
 
 /// The instruction that a word stands for.

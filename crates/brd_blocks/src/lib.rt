@@ -1,5 +1,5 @@
-//! Blocks: who may touch which word of RAM, and what a step of a processor is by that: one that nobody else can see, or
-//! one at which others may come between.
+//! Blocks: who may touch which word of RAM, which tasks are mortal, and what a step of a processor is by that: one that
+//! nobody else can see, or one at which others may come between.
 //!
 //! `specs/Owning.antt` says who may touch a word, and `specs/Stepping.antt` what a step is.
 #![tactic(auto)]
@@ -8,6 +8,7 @@ mod footprint;
 pub mod laws;
 mod learning;
 mod look;
+mod mortals;
 mod owner;
 mod owners;
 mod sharing;

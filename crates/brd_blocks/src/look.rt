@@ -7,8 +7,10 @@ ghost use Rattle.brd_blocks.specs.Looking.{
   access_hides,
   access_spares,
   are_private,
+  asks_of,
   asks_ter_tsk,
   has_place,
+  is_mortal_owner,
   links_into,
   link_is_into,
   look_by,
@@ -17,11 +19,14 @@ ghost use Rattle.brd_blocks.specs.Looking.{
   may_touch_both,
   me_on,
   me_standing,
+  surprises,
 };
 
 use crate::footprint::{Access, access_of};
+use crate::mortals::is_mortal;
 use crate::owner::Owner;
 use crate::owners::owner_at;
+use crate::sharing::Sharing;
 use brd_board::{Board, Standing};
 use brd_exec::Context;
 
@@ -30,38 +35,41 @@ use brd_exec::Context;
 pub(crate) struct Look {
     /// It keeps to who may touch what.
     pub keeps: bool,
-    /// It touches nothing that others may touch, and is no LL and no SC.
+    /// It touches nothing that others may touch, is no LL and no SC, and no mortal task's.
     pub hidden: bool,
     /// If it stores, it ends no link of another processor.
     pub unlinked: bool,
-    /// If it is a call, it asks for ter_tsk.
-    pub terminates: bool,
+    /// If it is a call, it asks for ter_tsk of a task that isn't mortal.
+    pub surprises: bool,
 }
 
 /// A look at the next instruction of a processor; None where nobody executes there, or at address 0 without a stack.
-pub(crate) fn look_at(owners: &[Owner], board: &Board, cpu: u8) -> Option<Look>
-    ensures { result ≡ look_of owners.now board.now cpu }
+pub(crate) fn look_at(sharing: &Sharing, board: &Board, cpu: u8) -> Option<Look>
+    ensures { result ≡ look_of sharing.now board.now cpu }
 {
     match (me_on(board, cpu), board.registers(cpu)) {
         (Some(me), Some(context)) if has_place(&context) => {
-            Some(look_by(owners, board, cpu, me, &context))
+            Some(look_by(sharing, board, cpu, me, &context))
         }
         _ => None,
     }
 }
 
 /// A look at the next instruction of a context.
-fn look_by(owners: &[Owner], board: &Board, cpu: u8, me: Owner, context: &Context) -> Look
-    ensures { result ≡ look_by owners.now board.now cpu me context.now }
+fn look_by(sharing: &Sharing, board: &Board, cpu: u8, me: Owner, context: &Context) -> Look
+    ensures { result ≡ look_by sharing.now board.now cpu me context.now }
 {
+    let owners = sharing.owners();
+    let mortals = sharing.mortals();
     let first = u64::from(context.pc());
     let last = first + 3;
     let access = access_of(board, context);
+    let private = are_private(owners, first, last) && access_hides(owners, access);
     Look {
         keeps: may_touch_both(owners, me, first, last) && access_keeps(owners, me, access),
-        hidden: are_private(owners, first, last) && access_hides(owners, access),
+        hidden: !is_mortal_owner(mortals, me) && private,
         unlinked: access_spares(board, cpu, access),
-        terminates: asks_ter_tsk(context),
+        surprises: surprises(mortals, context),
     }
 }
 
@@ -118,10 +126,34 @@ fn are_private(owners: &[Owner], first: u64, last: u64) -> bool
 }
 
 /// Whether a call with these registers asks for ter_tsk.
-fn asks_ter_tsk(context: &Context) -> bool
+pub(crate) fn asks_ter_tsk(context: &Context) -> bool
     ensures { result ≡ asks_ter_tsk context.now }
 {
     context.word(2) == 4
+}
+
+/// The task of which it asks for it.
+pub(crate) fn asks_of(context: &Context) -> u32
+    ensures { result ≡ asks_of context.now }
+{
+    context.word(4)
+}
+
+/// Whether it asks for it of a task that isn't mortal.
+fn surprises(mortals: &[bool], context: &Context) -> bool
+    ensures { result ≡ surprises mortals.now context.now }
+{
+    asks_ter_tsk(context) && !is_mortal(mortals, asks_of(context))
+}
+
+/// Whether who executes is a mortal task.
+fn is_mortal_owner(mortals: &[bool], me: Owner) -> bool
+    ensures { result ≡ is_mortal_owner mortals.now me }
+{
+    match me {
+        Owner::Task(id) => is_mortal(mortals, u32::from(id)),
+        Owner::Nobody | Owner::Handler(_) | Owner::Shared => false,
+    }
 }
 
 /// Whether a context is known to lie in the kernel: one that doesn't would be all zero.

@@ -2,7 +2,7 @@
 
 ghost use Rattle.std.specs.Prelude.{◌≡◌, true};
 ghost use Rattle.brd_blocks.specs.declared.owner.Owner.TheVariants.{Shared};
-ghost use Rattle.brd_blocks.specs.Owning.{is_shared, owner_at, StayShared};
+ghost use Rattle.brd_blocks.specs.Owning.{is_shared, owner_at, WordsStayShared};
 
 use crate::owner::Owner;
 use brd_base::BASE;
@@ -23,7 +23,7 @@ pub(crate) fn owner_at(owners: &[Owner], address: u64) -> Owner
 
 /// Gives the word of an address another owner, unless all may touch it. Answers whether it did.
 pub(crate) fn give(owners: &mut [Owner], address: u64, to: Owner) -> bool
-    ensures stay { StayShared owners.old owners.new }
+    ensures stay { WordsStayShared owners.old owners.new }
     ensures shared { to ≡ Shared → is_shared (owner_at owners.new address) ≡ true }
 {
     if address < u64::from(BASE) {

@@ -23,13 +23,12 @@ pub enum Stepped {
     Accepted,
     /// An instruction that nobody else can see.
     Invisible,
-    /// An instruction that others may see or that may see others, and terminates nobody.
+    /// An instruction that others may see or that may see others, and terminates mortal tasks alone.
     Visible,
-    /// An instruction that doesn't keep to who may touch what, or ends the link of another processor unseen: more has
-    /// to be shared. (Or one at address 0 without a stack, which isn't looked at.)
+    /// An instruction that doesn't keep to who may touch what, ends the link of another processor unseen, or asks for
+    /// ter_tsk of a task that isn't mortal: more has to be shared, or more tasks are mortal. (Or one at address 0
+    /// without a stack, which isn't looked at.)
     Strays,
-    /// A call that asks for ter_tsk.
-    Terminates,
 }
 
 impl Sharing {
@@ -40,7 +39,7 @@ impl Sharing {
         ensures is { IsLinkSet board.old.links → IsStepped (sharing_of self.now) board.old cpu result }
         ensures exactly { result ≡ stepped_of (look_of self.now board.old cpu) (happens board.old (Step cpu)).report }
     {
-        let look = look_at(self.owners(), board, cpu);
+        let look = look_at(self, board, cpu);
         let report = board.event_apart(Event::Step(cpu));
         stepped_of(look, report)
     }
@@ -67,8 +66,7 @@ fn done_of(look: Option<Look>, calls: bool, goes_on: bool) -> Stepped
 {
     match look {
         None => Stepped::Strays,
-        Some(look) if !look.keeps => Stepped::Strays,
-        Some(look) if calls && look.terminates => Stepped::Terminates,
+        Some(look) if !look.keeps || calls && look.surprises => Stepped::Strays,
         Some(look) if goes_on && look.hidden => ran_of(look.unlinked),
         Some(_) => Stepped::Visible,
     }

@@ -149,6 +149,7 @@ AreSearchOptions rows options = AreSizes rows options.sizes
     × IsFlag (one_of (codes "shortest") rows) options.shortest
     × (option_map (λ text. text.now) options.shard ≡ first_of (codes "SHARD") rows)
     × IsNumberOr 0 (one_of (codes "MIB") rows) options.remember
+    × IsNumberOr 0 (one_of (codes "SECONDS") rows) options.time
     × IsNumberOr 0 (one_of (codes "PLACES") rows) options.places
     × IsFlag (one_of (codes "livelock") rows) options.livelock
     × IsFlag (one_of (codes "finals") rows) options.finals

@@ -27,7 +27,9 @@ pub enum Reader {
 #[derive(Drop)]
 pub struct Screen<'a> {
     rt: &'a HostRuntime,
-    /// When the program began; `None` where nothing is shown.
+    /// When the program began, if the clock can be read.
+    began: Option<Instant>,
+    /// The same; `None` if nothing is shown.
     start: Option<Instant>,
     /// How long after that it is shown next.
     due: Duration,
@@ -41,10 +43,12 @@ pub struct Screen<'a> {
 impl<'a> Screen<'a> {
     /// The line of a program that begins now. It is told whether the program has a dialogue by standard input.
     pub fn new(rt: &'a HostRuntime, is_dialogue: bool) -> Screen<'a> {
+        let began = Instant::now(rt).ok();
         Screen {
             rt,
+            began,
             start: if rt.stderr().is_terminal() {
-                Instant::now(rt).ok()
+                began
             } else {
                 None
             },
@@ -102,6 +106,17 @@ impl<'a> Progress for Screen<'a> {
     fn tried(&mut self, schedules: u64) {
         if self.is_due() {
             let _ = eprint!(self.rt; "\r{schedules} schedules tried, none fails so far\x1b[K");
+        }
+    }
+
+    /// By the clock, from the beginning of the program on.
+    fn is_over(&mut self, seconds: u32) -> bool {
+        let Some(began) = self.began else {
+            return false;
+        };
+        match began.elapsed(self.rt) {
+            Ok(gone) => gone >= Duration::from_secs(u64::from(seconds)),
+            Err(_) => false,
         }
     }
 

@@ -562,6 +562,12 @@ fn with_search<'a>(alloc: Global, command: Command<'a>) -> Result<Command<'a>, N
         ))?
         .arg(count(
             alloc,
+            "SECONDS",
+            "time",
+            "How many seconds it may take; any number if left out, or 0",
+        ))?
+        .arg(count(
+            alloc,
             "PLACES",
             "places",
             "Sets no bound on events and preemptions; goes through so many places at most",

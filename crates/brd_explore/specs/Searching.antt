@@ -9,6 +9,8 @@ use Rattle.brd_explore.specs.declared.search.Search.{Search}
 use Rattle.brd_explore.specs.declared.search.Saved.{Saved}
 use Rattle.brd_explore.specs.declared.search.Turn.{Turn}
 use Rattle.brd_explore.specs.declared.search.Turn.TheVariants as turn
+use Rattle.brd_explore.specs.declared.search.Halt.{Halt}
+use Rattle.brd_explore.specs.declared.search.Halt.TheVariants as halt
 use Rattle.brd_explore.specs.Schedules.{Place, does, is_left, next, place_after, event_at, IsAmong, IsWithin}
 use Rattle.brd_explore.specs.Failures.{fails_at}
 use Rattle.brd_explore.specs.Sleeping.{Spot, next_spot, asleep_after, is_left_out}
@@ -230,6 +232,11 @@ ended_by false = turn.Over
 abbrev pub Answers : Wanted → List Event → Place → Option (List Event) → Type 0
 Answers wanted among from (Some events) = IsFound wanted among from events
 Answers wanted among from None = NoneFails wanted among from
+
+-- Why a search has come to no answer is so: it was stopped only by who may stop it.
+abbrev pub HaltsSo : Bool → Halt → Type 0
+HaltsSo may halt.NoMemory = Unit {0}
+HaltsSo may halt.Stopped = may ≡ true
 
 -- which answer follows from what a search came to
 abbrev pub Finds : Search → Bool → Option (List Event) → Type 0

@@ -13,7 +13,7 @@ mod wanted;
 
 pub use bounds::{Bounds, did_nothing};
 pub use condition::{Comparison, Condition, Term};
-pub use search::{Counts, Found, Nobody, Watch, find};
+pub use search::{Counts, Found, Halt, Nobody, Watch, find};
 pub use shard::{Shard, find_in_shard};
 pub use shrinking::{fails, shrink};
 pub use wanted::{Failure, Wanted, is_at_rest, is_end, some_are_due};

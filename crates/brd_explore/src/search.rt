@@ -1,7 +1,7 @@
 //! The search: depth first, by a stack of places to go back to.
 
 ghost use Rattle.std.specs.Prelude.{option_map, ◌≡◌, ◌&&◌, take, ◌∷◌, ◌++◌, ◌+◌, ◌≤◌, ◌<◌, [], ℕ, true, false, length};
-ghost use Rattle.std.specs.Prelude.{List as ListOf, IfOk, OnOk, IfSome, IfNone, All, Some, None};
+ghost use Rattle.std.specs.Prelude.{List as ListOf, IfErr, IfOk, OnOk, IfSome, IfNone, All, Some, None};
 ghost use Rattle.brd_board.specs.declared.event.Event.{Event as EventOf};
 ghost use Rattle.brd_board.specs.Board.{happens};
 ghost use Rattle.brd_explore.specs.Schedules.{does, Place, is_left, next, event_at, IsWithin, IsAmong, start};
@@ -12,6 +12,7 @@ ghost use Rattle.brd_explore.specs.Knowing.{Knows, KnowsOn, AreDone, AreOver, Ar
 ghost use Rattle.brd_explore.specs.Searching.{
   AreAlike,
   Fails,
+  HaltsSo,
   IsOnPath,
   IsSized,
   IsTooMuch,
@@ -441,7 +442,7 @@ impl Search {
         wanted: &Wanted,
         known: &mut Known,
         watch: &mut W,
-    ) -> Result<bool, NoMemory>
+    ) -> Result<bool, Halt>
         requires sized { IsSized self.old }
         requires known { Knows wanted.now among.now self.old known.old }
         ensures out { IfOk result (λ found. LeavesOut wanted.now among.now self.old self.new (ended_by found)) }
@@ -449,12 +450,17 @@ impl Search {
             → IfOk result (λ found. LeadsOn wanted.now among.now from self.new (ended_by found)) }
         ensures known { IfOk result (λ found. KnowsOn wanted.now among.now self.new known.new (ended_by found)) }
         ensures sized { IsSized self.new }
+        ensures halts { IfErr result (HaltsSo W.may_stop) }
     {
         loop {
             match self.turn(among, wanted, known)? {
                 Turn::Found => return Ok(true),
                 Turn::Over => return Ok(false),
-                Turn::On => watch.tried(self.counts.tried),
+                Turn::On => {
+                    if !watch.tried(self.counts.tried) {
+                        return Err(Halt::Stopped);
+                    }
+                }
             }
         }
     }
@@ -563,8 +569,15 @@ impl Counts {
 
 /// What is told how many schedules a search has tried.
 pub trait Watch {
-    /// So many schedules were searched up to where nothing more may come, as `Found` counts them.
-    fn tried(&mut self, schedules: u64);
+    ghost use Rattle.std.specs.Prelude.{◌≡◌, Bool, true, false};
+
+    // whether it may want no more of a search
+    ghost may_stop: { Bool };
+
+    /// So many schedules were searched up to where nothing more may come, as `Found` counts them. Answers whether the
+    /// search is to go on.
+    fn tried(&mut self, schedules: u64) -> bool
+        ensures { result ≡ false → Self.may_stop ≡ true };
 }
 
 /// Who doesn't watch.
@@ -572,7 +585,33 @@ pub trait Watch {
 pub struct Nobody;
 
 impl Watch for Nobody {
-    fn tried(&mut self, _schedules: u64) {}
+    ghost use Rattle.std.specs.Prelude.{false};
+
+    ghost may_stop = { false };
+
+    fn tried(&mut self, _schedules: u64) -> bool {
+        true
+    }
+}
+
+/// Why a search has come to no answer.
+#[derive(Clone, Copy, Debug, PartialEq, Eq)]
+pub enum Halt {
+    /// A growth was refused: there is no memory left.
+    NoMemory,
+    /// Who watches wanted no more of it.
+    Stopped,
+}
+
+impl From<NoMemory> for Halt {
+    ghost use Rattle.std.specs.Prelude.{◌≡◌};
+    ghost use Rattle.brd_explore.specs.declared.search.Halt.TheVariants.{NoMemory as no_memory};
+
+    ghost from_gives = { λ _ halt. halt ≡ no_memory };
+
+    fn from(_e: NoMemory) -> Self {
+        Halt::NoMemory
+    }
 }
 
 /// What a search came to.
@@ -594,10 +633,11 @@ pub fn find<W: Watch>(
     wanted: &Wanted,
     remember: usize,
     watch: &mut W,
-) -> Result<Found, NoMemory>
-    ensures { IfOk result
+) -> Result<Found, Halt>
+    ensures is { IfOk result
         (λ found.
         Answers wanted.now among.now (start board.now bounds) (option_map (λ events. events.items) found.schedule)) }
+    ensures halts { IfErr result (HaltsSo W.may_stop) }
 {
     if wanted.fails_at(board, bounds)? {
         return Ok(Found {

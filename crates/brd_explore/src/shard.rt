@@ -1,17 +1,17 @@
 //! A search that several machines share, by the branches that leave its first schedule.
 
 ghost use Rattle.std.specs.Prelude.{option_map, ◌≡◌, ◌+◌, ◌%◌, ◌<◌, [], ℕ, true};
-ghost use Rattle.std.specs.Prelude.{false, length, None, IfOk, IfSome, IfNone};
+ghost use Rattle.std.specs.Prelude.{false, length, None, IfErr, IfOk, IfSome, IfNone};
 ghost use Rattle.brd_explore.specs.Schedules.{event_at, start};
 ghost use Rattle.brd_explore.specs.Knowing.{AreDone, KnowsAlong};
-ghost use Rattle.brd_explore.specs.Searching.{IsSized, place_of};
+ghost use Rattle.brd_explore.specs.Searching.{HaltsSo, IsSized, place_of};
 ghost use Rattle.brd_explore.specs.Shards.{AnswersInShard, may_come, ways};
 ghost use Rattle.brd_explore.specs.Sharing.{BeginsHere, GoesAlong, IsFirst, IsOnTrunk, SearchesBranch};
 ghost use Rattle.brd_explore.specs.Sharing.{SearchesBranches, SearchesFrom, SearchesShard, SearchesWay};
 
 use crate::bounds::{Bounds, did_nothing};
 use crate::known::{Known, may_have_more};
-use crate::search::{Counts, Found, Search, Turn, Watch};
+use crate::search::{Counts, Found, Halt, Search, Turn, Watch};
 use crate::wanted::Wanted;
 use brd_base::NoMemory;
 use brd_board::{Board, Event};
@@ -37,12 +37,13 @@ pub fn find_in_shard<W: Watch>(
     wanted: &Wanted,
     remember: usize,
     watch: &mut W,
-) -> Result<Found, NoMemory>
+) -> Result<Found, Halt>
     requires { 0 < shard.of }
-    ensures { IfOk result
+    ensures is { IfOk result
         (λ found.
         AnswersInShard wanted.now shard among.now (start board.now bounds)
         (option_map (λ events. events.items) found.schedule)) }
+    ensures halts { IfErr result (HaltsSo W.may_stop) }
 {
     if wanted.fails_at(board, bounds)? {
         return Ok(Found {
@@ -65,11 +66,12 @@ impl Search {
         wanted: &Wanted,
         known: &mut Known,
         watch: &mut W,
-    ) -> Result<bool, NoMemory>
+    ) -> Result<bool, Halt>
         requires of { 0 < shard.of }
         requires trunk { IsOnTrunk wanted.now self.old }
         requires known { AreDone wanted.now among.now known.old }
-        ensures { IfOk result (SearchesShard wanted.now shard among.now self.old self.new) }
+        ensures is { IfOk result (SearchesShard wanted.now shard among.now self.old self.new) }
+        ensures halts { IfErr result (HaltsSo W.may_stop) }
     {
         let mut number = 0;
         loop {
@@ -91,7 +93,7 @@ impl Search {
         wanted: &Wanted,
         known: &mut Known,
         watch: &mut W,
-    ) -> Result<Turn, NoMemory>
+    ) -> Result<Turn, Halt>
         requires of { 0 < shard.of }
         requires trunk { IsOnTrunk wanted.now self.old }
         requires number { number.old < shard.of }
@@ -99,6 +101,7 @@ impl Search {
         ensures goes { IfOk result (GoesAlong wanted.now shard among.now self.old number.old self.new number.new) }
         ensures number { number.new < shard.of }
         ensures known { IfOk result (λ turn. KnowsAlong wanted.now among.now known.new turn) }
+        ensures halts { IfErr result (HaltsSo W.may_stop) }
     {
         let Some(first) = self.first_way(among)? else {
             self.count()?;
@@ -124,7 +127,7 @@ impl Search {
         wanted: &Wanted,
         known: &mut Known,
         watch: &mut W,
-    ) -> Result<bool, NoMemory>
+    ) -> Result<bool, Halt>
         requires of { 0 < shard.of }
         requires sized { IsSized self.old }
         requires first { IsFirst among.now (place_of self.old) first }
@@ -134,6 +137,7 @@ impl Search {
         ensures number { number.new < shard.of }
         ensures known { IfOk result (λ found. found ≡ false → AreDone wanted.now among.now known.new) }
         ensures sized { IsSized self.new }
+        ensures halts { IfErr result (HaltsSo W.may_stop) }
     {
         for at in first + 1..among.len() {
             if self.search_way(among, at, shard, number, wanted, known, watch)? {
@@ -154,7 +158,7 @@ impl Search {
         wanted: &Wanted,
         known: &mut Known,
         watch: &mut W,
-    ) -> Result<bool, NoMemory>
+    ) -> Result<bool, Halt>
         requires of { 0 < shard.of }
         requires sized { IsSized self.old }
         requires within { at < length among.now }
@@ -164,6 +168,7 @@ impl Search {
         ensures number { number.new < shard.of }
         ensures known { IfOk result (λ found. found ≡ false → AreDone wanted.now among.now known.new) }
         ensures sized { IsSized self.new }
+        ensures halts { IfErr result (HaltsSo W.may_stop) }
     {
         if !self.comes(among[at])? {
             return Ok(false);
@@ -183,7 +188,7 @@ impl Search {
         wanted: &Wanted,
         known: &mut Known,
         watch: &mut W,
-    ) -> Result<bool, NoMemory>
+    ) -> Result<bool, Halt>
         requires sized { IsSized self.old }
         requires within { at < length among.now }
         requires comes { may_come (place_of self.old) (event_at among.now at) ≡ true }
@@ -191,6 +196,7 @@ impl Search {
         ensures is { IfOk result (SearchesBranch wanted.now among.now at self.old self.new) }
         ensures known { IfOk result (λ found. found ≡ false → AreDone wanted.now among.now known.new) }
         ensures sized { IsSized self.new }
+        ensures halts { IfErr result (HaltsSo W.may_stop) }
     {
         let mut branch = self.branch()?;
         branch.take(among[at])?;
@@ -210,12 +216,13 @@ impl Search {
         wanted: &Wanted,
         known: &mut Known,
         watch: &mut W,
-    ) -> Result<bool, NoMemory>
+    ) -> Result<bool, Halt>
         requires sized { IsSized self.old }
         requires begins { BeginsHere self.old }
         requires known { AreDone wanted.now among.now known.old }
         ensures is { IfOk result (SearchesFrom wanted.now among.now self.old self.new) }
         ensures known { IfOk result (λ found. found ≡ false → AreDone wanted.now among.now known.new) }
+        ensures halts { IfErr result (HaltsSo W.may_stop) }
     {
         if wanted.fails_at(&self.board, self.left)? {
             return Ok(true);

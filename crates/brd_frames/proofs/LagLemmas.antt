@@ -153,7 +153,7 @@ sees-invisible by one two who new other sees it goes = record {
   goes = goes;
   apart = λ address is. it.apart address (sym (sees-touches one two who address sees) ∙ is);
   keeps = sees-keeps by one two who sees it.keeps;
-  lasting = λ mortal address. sees-stores one two who address sees ∙ it.lasting mortal address;
+  lasting = it.lasting;
 }
 
 pub sees-goes : (one two : BoardState) (who : Agent) (new : BoardState) (it : Leads one who new) → Sees one two who →

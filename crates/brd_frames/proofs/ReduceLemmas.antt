@@ -28,7 +28,7 @@ use Rattle.brd_frames.specs.Touching.{with_change, put_at}
 use Rattle.brd_frames.specs.Going.{Gone, goes, IsNext}
 use Rattle.brd_frames.specs.Commuting.{IsUnlinked, EndsNoLink}
 use Rattle.brd_frames.specs.Lagging.{Sharing, Keeps, IsInvisible, Lags, Path, is_same_agent, without}
-use Rattle.brd_frames.specs.Reducing.{IsQuiet, PayAll, IsTree, ReductionLaw}
+use Rattle.brd_frames.specs.Reducing.{IsQuiet, EndsMortals, PayAll, IsTree, ReductionLaw}
 use Rattle.brd_frames.proofs.CommuteLemmas.{agent-steps}
 use Rattle.brd_frames.proofs.EndLemmas.{lives-on}
 use Rattle.brd_frames.proofs.StartLemmas.{calls-so}
@@ -222,8 +222,19 @@ abbrev AllLive : BoardState → List Agent → Type 0
 AllLive b [] = Unit {0}
 AllLive b (who ∷ more) = Lives b who × AllLive b more
 
-abbrev EndsNobody : BoardState → Event → Type 0
-EndsNobody b event = (id : ℕ) → Terminates b event id → ⊥
+-- none of these agents is mortal: so it is of those that lag
+abbrev AllLast : Sharing → List Agent → Type 0
+AllLast by [] = Unit {0}
+AllLast by (who ∷ more) = (by.mortal who ≡ false) × AllLast by more
+
+lags-last : (by : Sharing) (b new : BoardState) (steps : List Agent) → Lags by b steps new → AllLast by steps
+lags-last by b new [] lags = tt
+lags-last by b new (who ∷ more) lags = (lags.1.lasting, lags-last by lags.0 new more lags.3)
+
+-- so no event terminates them that terminates mortal tasks alone
+spared : (by : Sharing) (b : BoardState) (event : Event) (id : ℕ) → EndsMortals by b event → by.mortal (agents.Task id) ≡ false →
+    Terminates b event id → ⊥
+spared by b event id mortals lasts ends = false≢true (sym lasts ∙ mortals id ends)
 
 lives-like : (one two : BoardState) (who : Agent) → Like one two → Lives one who → Lives two who
 lives-like one two (agents.Task id) like live = ap is_live (like.tasks id) ∙ live
@@ -272,39 +283,41 @@ terminates-so b event who it is = record {
   serves = sym (ap (λ c. is_ok (serve_by b.kernel it.cpu (caller_on b.kernel it.cpu) c)) is) ∙ it.serves;
 }
 
-never-starts : (b : BoardState) (event : Event) (who : Agent) → Lives b who → EndsNobody b event → Starts b event who → ⊥
-never-starts b event who live never it =
+never-starts : (by : Sharing) (b : BoardState) (event : Event) (who : Agent) → Lives b who → by.mortal who ≡ false → EndsMortals by b event →
+    Starts b event who → ⊥
+never-starts by b event who live lasts mortals it =
     elim (starts-how it.call (caller_on b.kernel it.cpu) it.id it.task it.starts) [
       | inl dormant ↦ awake it.task (task_at b.kernel.tasks it.id) it.there (subst (Lives b) it.is live) dormant
-      | inr terminates ↦ never it.id (terminates-so b event who it terminates)
+      | inr terminates ↦
+          spared by b event it.id mortals (sym (ap by.mortal it.is) ∙ lasts) (terminates-so b event who it terminates)
     ]
 
--- who is live stays so, over others' events that terminate nobody
-lives-over : (b : BoardState) (event : Event) (who : Agent) → (Executes b event who → ⊥) → EndsNobody b event → Lives b who →
-    Lives (happens b event).board who
-lives-over b event (agents.Task id) other never live = lives-on b event id other (never id) live
-lives-over b event (agents.Handler cpu) other never live = tt
+-- who is live and isn't mortal stays so, over others' events that terminate mortal tasks alone
+lives-over : (by : Sharing) (b : BoardState) (event : Event) (who : Agent) → (Executes b event who → ⊥) → EndsMortals by b event →
+    by.mortal who ≡ false → Lives b who → Lives (happens b event).board who
+lives-over by b event (agents.Task id) other mortals lasts live = lives-on b event id other (spared by b event id mortals lasts) live
+lives-over by b event (agents.Handler cpu) other mortals lasts live = tt
 
-all-over : (b : BoardState) (event : Event) (steps : List Agent) → ((x : Agent) → Executes b event x → Others x steps) → EndsNobody b event →
-    AllLive b steps → AllLive (happens b event).board steps
-all-over b event [] other never live = tt
-all-over b event (who ∷ more) other never live = (
-  lives-over b event who (λ acts. (other who acts).0 refl) never live.0,
-  all-over b event more (λ x acts. (other x acts).1) never live.1,
+all-over : (by : Sharing) (b : BoardState) (event : Event) (steps : List Agent) → ((x : Agent) → Executes b event x → Others x steps) →
+    EndsMortals by b event → AllLast by steps → AllLive b steps → AllLive (happens b event).board steps
+all-over by b event [] other mortals last live = tt
+all-over by b event (who ∷ more) other mortals last live = (
+  lives-over by b event who (λ acts. (other who acts).0 refl) mortals last.0 live.0,
+  all-over by b event more (λ x acts. (other x acts).1) mortals last.1 live.1,
 )
 
--- All that lag and are live are apart from an event that is no instruction of them and terminates nobody.
+-- All that lag and are live are apart from an event that is no instruction of them and terminates mortal tasks alone.
 all-apart : (by : Sharing) (b new place : BoardState) (event : Event) (steps : List Agent) → Lags by b steps new → Like place b →
-    ((x : Agent) → Executes place event x → Others x steps) → EndsNobody place event → AllLive place steps → AllApart place event steps
-all-apart by b new place event [] lags like other never live = tt
-all-apart by b new place event (who ∷ more) lags like other never live = (
+    ((x : Agent) → Executes place event x → Others x steps) → EndsMortals by place event → AllLive place steps → AllApart place event steps
+all-apart by b new place event [] lags like other mortals live = tt
+all-apart by b new place event (who ∷ more) lags like other mortals live = (
   record {
     steady = sym (like.steady who) ∙ lags.2;
     elsewhere = λ acts. (other who acts).0 refl;
-    lasting = never-starts place event who live.0 never;
+    lasting = never-starts by place event who live.0 lags.1.lasting mortals;
   },
   all-apart by lags.0 new place event more lags.3 (like-then place b lags.0 like (like-invisible by b who lags.0 lags.1))
-      (λ x acts. (other x acts).1) never live.1,
+      (λ x acts. (other x acts).1) mortals live.1,
 )
 
 -- One event.
@@ -320,16 +333,16 @@ record Behind (by : Sharing) (In : BoardState → Type 0) (b : BoardState) : Typ
 -- by an event in which none of those executes that lag
 by-others : (by : Sharing) (In : BoardState → Type 0) (b middle : BoardState) (event : Event) (others : List Agent) →
     Lags by middle others b → AllLive middle others → ((x : Agent) → Executes middle event x → Others x others × Keeps by middle x) →
-    EndsNobody middle event → In (happens middle event).board → Behind by In (happens b event).board
-by-others by In b middle event others lags live acts never there =
+    EndsMortals by middle event → In (happens middle event).board → Behind by In (happens b event).board
+by-others by In b middle event others lags live acts mortals there =
     let over = lags-over by middle b event others lags (λ x it. (acts x it).1)
-    (all-apart by middle b middle event others lags (like-same middle) (λ x it. (acts x it).0) never live) in
+    (all-apart by middle b middle event others lags (like-same middle) (λ x it. (acts x it).0) mortals live) in
     record {
       place = (happens middle event).board;
       lagging = others;
       there = there;
       lags = over.0;
-      live = all-over middle event others (λ x it. (acts x it).0) never live;
+      live = all-over by middle event others (λ x it. (acts x it).0) mortals (lags-last by middle b others lags) live;
     }
 
 by-quiet : (by : Sharing) (Left : Type 0) (pays : Left → Event → Left → Type 0) (In : Left → BoardState → Type 0) (left rest : Left)
@@ -337,7 +350,7 @@ by-quiet : (by : Sharing) (Left : Type 0) (pays : Left → Event → Left → Ty
     IsQuiet it.place event → Behind by (In rest) (happens b event).board
 by-quiet by Left pays In left rest b event it tree paid quiet =
     by-others by (In rest) b it.place event it.lagging it.lags it.live (λ x acts. absurd (quiet x acts))
-    (λ id. quiet-ends it.place event id quiet) (tree.quiet left rest it.place event it.there paid quiet)
+    (λ id ends. absurd (quiet-ends it.place event id quiet ends)) (tree.quiet left rest it.place event it.there paid quiet)
 
 same-stored : (gone other : Gone) → Some gone ≡ Some other → gone.stored ≡ other.stored
 same-stored gone other is = let same : gone ≡ other = cc in ap (λ (x : Gone). x.stored) same
@@ -378,10 +391,10 @@ by-invisible by In b middle new cpu count x others it next steady live path lags
 
 by-visible : (by : Sharing) (In : BoardState → Type 0) (b middle : BoardState) (cpu : ℕ) (y : Agent) (others : List Agent) →
     Executes middle (Step cpu) y → Lags by middle others b → AllLive middle others → Others y others → Keeps by middle y →
-    EndsNobody middle (Step cpu) → In (happens middle (Step cpu)).board → Behind by In (happens b (Step cpu)).board
-by-visible by In b middle cpu y others acts lags live apart keeps never there =
+    EndsMortals by middle (Step cpu) → In (happens middle (Step cpu)).board → Behind by In (happens b (Step cpu)).board
+by-visible by In b middle cpu y others acts lags live apart keeps mortals there =
     by-others by In b middle (Step cpu) others lags live
-    (λ z other. subst (λ w. Others w others × Keeps by middle w) (one-agent middle (Step cpu) y z acts other) (apart, keeps)) never there
+    (λ z other. subst (λ w. Others w others × Keeps by middle w) (one-agent middle (Step cpu) y z acts other) (apart, keeps)) mortals there
 
 executor-lives : (b : BoardState) (cpu : ℕ) (x : Executor) → ((id : ℕ) → x ≡ executor.Task id → is_live_at b id ≡ true) → Lives b (agent_by cpu x)
 executor-lives b cpu executor.Handler live = tt

@@ -13,8 +13,8 @@ use Rattle.brd_frames.specs.Touching.{touches, stores}
 use Rattle.brd_frames.specs.Going.{IsNext}
 use Rattle.brd_frames.specs.Commuting.{agent_goes, EndsNoLink}
 
--- What agents may do with bytes of RAM: which addresses they share; of each other one, who alone may store to it; and
--- which agents may be started anew by others while they lag.
+-- What agents may do to each other: which addresses of RAM they share; of each other address, who alone may store to
+-- it; and which agents are mortal: others may terminate them.
 pub record Sharing : Type 0 where
   pub shared : ℕ → Bool
   pub owner : ℕ → Option Agent
@@ -29,13 +29,12 @@ pub record Keeps (by : Sharing) (b : BoardState) (who : Agent) : Type 0 where
       by.shared address ≡ false → IfSome (by.owner address) (λ other. other ≡ who)
 
 -- An agent's next instruction is invisible, and leads to a board: it is no call, exception, LL or SC, touches no shared
--- byte, and, where the agent may be started anew, stores nothing.
+-- byte, and the agent isn't mortal.
 pub record IsInvisible (by : Sharing) (b : BoardState) (who : Agent) (new : BoardState) : Type 0 where
   pub goes : agent_goes b who ≡ Some new
   pub apart : (address : ℕ) → touches (context_in b.kernel who) b.memory address ≡ true → by.shared address ≡ false
   pub keeps : Keeps by b who
-  pub lasting : by.mortal who ≡ true → (address : ℕ) →
-      stores (context_in b.kernel who) b.memory address ≡ false
+  pub lasting : by.mortal who ≡ false
 
 -- Of two boards the first one lags behind by instructions of these agents, one after the other: all of them are steady,
 -- the instructions are invisible, and lead from the first board to the second.

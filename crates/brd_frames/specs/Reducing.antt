@@ -9,6 +9,7 @@ use Rattle.brd_kernel.specs.Always.{HasPlace}
 use Rattle.brd_board.specs.declared.event.Event.{Event}
 use Rattle.brd_board.specs.declared.event.Event.TheVariants.{Step}
 use Rattle.brd_board.specs.Board.{BoardState, happens, after}
+use Rattle.brd_frames.specs.Agents as agents
 use Rattle.brd_frames.specs.Agents.{Agent, agent_by}
 use Rattle.brd_frames.specs.Apart.{is_steady, Executes, Terminates}
 use Rattle.brd_frames.specs.Ending.{is_live_at}
@@ -19,6 +20,10 @@ use Rattle.brd_frames.specs.Lagging.{Sharing, Keeps, IsInvisible, Lags, Path}
 -- no agent executes an instruction in an event: a tick, a raise, an accepted interrupt, a step that does nothing
 abbrev pub IsQuiet : BoardState → Event → Type 0
 IsQuiet b event = (who : Agent) → Executes b event who → ⊥
+
+-- an event terminates no task but mortal ones
+abbrev pub EndsMortals : Sharing → BoardState → Event → Type 0
+EndsMortals by b event = (id : ℕ) → Terminates b event id → by.mortal (agents.Task id) ≡ true
 
 -- What a list of events takes: `pays` says what one of them leaves of what is left.
 abbrev pub PayAll : (Left : Type 0) → (Left → Event → Left → Type 0) → Left → List Event → Left → Type 0
@@ -42,12 +47,12 @@ pub record IsTree (by : Sharing) (Left : Type 0) (pays : Left → Event → Left
       IsQuiet b event → In rest (happens b event).board
   -- From a place, after however many invisible instructions of whoever executes on a processor that may step, the next
   -- one keeps to the sharing; and it is invisible too and ends no link of others, or leads to a place and terminates
-  -- nobody.
+  -- nobody who isn't mortal.
   pub blocks : (left : Left) (b middle : BoardState) (cpu : ℕ) (who : Agent) (count : ℕ) → In left b →
       pays left (Step cpu) left → IsNext b cpu who → Path by b who count middle →
       Keeps by middle who
       × (((new : BoardState) × IsInvisible by middle who new × EndsNoLink middle cpu who)
-      ⊎ (In left (happens middle (Step cpu)).board × ((id : ℕ) → Terminates middle (Step cpu) id → ⊥)))
+      ⊎ (In left (happens middle (Step cpu)).board × EndsMortals by middle (Step cpu)))
 
 -- a place of the tree that lags behind a board
 pub record Reaches (by : Sharing) (In : BoardState → Type 0) (b : BoardState) : Type 0 where

@@ -15,6 +15,11 @@ pub trait Progress {
     /// So many schedules of a search were tried. What doesn't say otherwise does nothing then.
     fn tried(&mut self, _schedules: u64) {}
 
+    /// Whether so many seconds have gone by since work began. What doesn't say otherwise doesn't know.
+    fn is_over(&mut self, _seconds: u32) -> bool {
+        false
+    }
+
     /// Output is written next, which is to stand alone.
     fn hide(&mut self);
 

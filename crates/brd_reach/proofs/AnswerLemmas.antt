@@ -18,8 +18,7 @@ use Rattle.brd_explore.specs.Shrinking.{fails_after}
 use Rattle.brd_frames.specs.Lagging.{Sharing}
 use Rattle.brd_link.specs.LinkSet.{IsLinkSet}
 use Rattle.std.proofs.lemmas.List.{get_or_default}
-use Rattle.brd_blocks.specs.declared.owner.Owner.{Owner}
-use Rattle.brd_blocks.specs.Owning.{StaysShared, StayShared, sharing_of}
+use Rattle.brd_blocks.specs.Owning.{Known, StaysShared, StayShared, sharing_of}
 use Rattle.brd_blocks.proofs.LinkLemmas.{stays-set}
 use Rattle.brd_places.specs.declared.left.Left.{Left}
 use Rattle.brd_frames.proofs.ReduceLemmas.{reduced}
@@ -114,14 +113,14 @@ next P Q xs i it keeps before here is within k d less =
       | inr same ↦ subst (λ n. Q (get_or xs n d)) (sym same) (subst Q (is ∙ get_or_default xs i it d within) here)
     ]
 
-pub guard-next : (old new : List Owner) (failures : List Failure) (i : ℕ) (it : Failure) →
+pub guard-next : (old new : Known) (failures : List Failure) (i : ℕ) (it : Failure) →
     ((k : ℕ) (d : Failure) → k < i → IsGuarded (sharing_of old) (get_or failures k d)) → StayShared old new → IsGuarded (sharing_of new) it →
     it ≡ get_or failures i it → i < length failures → (k : ℕ) (d : Failure) → k < i + 1 → IsGuarded (sharing_of new) (get_or failures k d)
 guard-next old new failures i it before stays here is within =
     next (IsGuarded (sharing_of old)) (IsGuarded (sharing_of new)) failures i it
     (λ x. guarded-stays (sharing_of old) (sharing_of new) x stays) before here is within
 
-pub term-next : (old new : List Owner) (terms : List Term) (i : ℕ) (it : Term) →
+pub term-next : (old new : Known) (terms : List Term) (i : ℕ) (it : Term) →
     ((k : ℕ) (d : Term) → k < i → IsSharedTerm (sharing_of old) (get_or terms k d)) → StayShared old new → IsSharedTerm (sharing_of new) it →
     it ≡ get_or terms i it → i < length terms → (k : ℕ) (d : Term) → k < i + 1 → IsSharedTerm (sharing_of new) (get_or terms k d)
 term-next old new terms i it before stays here is within =
@@ -129,7 +128,7 @@ term-next old new terms i it before stays here is within =
     (λ x. term-stays (sharing_of old) (sharing_of new) x stays) before here is within
 
 -- whatever would stand for a term that isn't there
-pub term-after : (old new : List Owner) (terms : List Term) (i : ℕ) (other : Term) →
+pub term-after : (old new : Known) (terms : List Term) (i : ℕ) (other : Term) →
     ((k : ℕ) (d : Term) → k < i → IsSharedTerm (sharing_of old) (get_or terms k d)) → StayShared old new →
     IsSharedTerm (sharing_of new) (get_or terms i other) → i < length terms → (k : ℕ) (d : Term) → k < i + 1 →
     IsSharedTerm (sharing_of new) (get_or terms k d)

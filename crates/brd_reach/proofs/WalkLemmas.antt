@@ -6,11 +6,10 @@ use Rattle.brd_link.specs.LinkSet.{IsLinkSet}
 use Rattle.brd_board.specs.declared.event.Event.TheVariants.{Step}
 use Rattle.brd_board.specs.Board.{BoardState, happens, after}
 use Rattle.brd_frames.specs.Agents.{Agent, agent_by}
-use Rattle.brd_frames.specs.Apart.{Terminates}
 use Rattle.brd_frames.specs.Going.{IsNext}
 use Rattle.brd_frames.specs.Commuting.{EndsNoLink}
 use Rattle.brd_frames.specs.Lagging.{Sharing, Keeps, IsInvisible, Path}
-use Rattle.brd_frames.specs.Reducing.{IsQuiet}
+use Rattle.brd_frames.specs.Reducing.{IsQuiet, EndsMortals}
 use Rattle.brd_frames.proofs.ReduceLemmas.{like-invisible, like-path, like-next}
 use Rattle.brd_blocks.specs.Stepping.{AllStandWell, IsHidden, IsVisible}
 use Rattle.brd_reach.specs.Rounds.{LeadsTo, HasWalked}
@@ -154,8 +153,8 @@ walk-ends by b cpu count middle well walked it =
                 subst (λ z. Keeps by z who
                 × (((new : BoardState) × IsInvisible by z who new × EndsNoLink z cpu who)
                 ⊎ (((happens z (Step cpu)).board ≡ (happens middle (Step cpu)).board)
-                × ((id : ℕ) → Terminates z (Step cpu) id → ⊥)))) there
-                (subst (Keeps by middle) (here who next) it.keeps, inr (refl, it.lasting))
+                × EndsMortals by z (Step cpu)))) there
+                (subst (Keeps by middle) (here who next) it.keeps, inr (refl, it.mortals))
             | inr (inr more) ↦
                 let on = path-on by who count more.0 b middle m (walked.reached who next) (subst (λ k. Path by b who k m) more.1 path) in
                 absurd (it.visible on.0 (subst (λ w. IsInvisible by middle w on.0) (sym (here who next)) on.1))

@@ -8,11 +8,10 @@ use Rattle.brd_board.specs.Board.{BoardState, happens, after}
 use Rattle.brd_explore.specs.Schedules.{event_at}
 use Rattle.brd_explore.specs.declared.wanted.Wanted.{Wanted}
 use Rattle.brd_frames.specs.Agents.{Agent}
-use Rattle.brd_frames.specs.Apart.{Terminates}
 use Rattle.brd_frames.specs.Going.{IsNext}
 use Rattle.brd_frames.specs.Commuting.{EndsNoLink}
 use Rattle.brd_frames.specs.Lagging.{Sharing, Keeps, IsInvisible, Path}
-use Rattle.brd_frames.specs.Reducing.{IsQuiet}
+use Rattle.brd_frames.specs.Reducing.{IsQuiet, EndsMortals}
 use Rattle.brd_blocks.specs.Stepping.{AllStandWell}
 use Rattle.brd_places.specs.Places.{Place}
 use Rattle.brd_places.specs.declared.left.Left.{Left}
@@ -57,7 +56,7 @@ Blocks by b cpu Ends =
     (middle : BoardState) (who : Agent) (count : ℕ) → IsNext b cpu who → Path by b who count middle →
     Keeps by middle who
     × (((new : BoardState) × IsInvisible by middle who new × EndsNoLink middle cpu who)
-    ⊎ (Ends (happens middle (Step cpu)).board × ((id : ℕ) → Terminates middle (Step cpu) id → ⊥)))
+    ⊎ (Ends (happens middle (Step cpu)).board × EndsMortals by middle (Step cpu)))
 
 -- Each block of a processor from a board, and each step of it there that is nobody's instruction, leads to a last one.
 pub record LeadsTo (by : Sharing) (b : BoardState) (cpu : ℕ) (last : BoardState) : Type 0 where

@@ -26,7 +26,7 @@ pub(crate) enum Block {
     Stays,
     /// It leads to another place, by so many steps.
     Leads(u32),
-    /// After so many steps there is one that doesn't keep to who may touch what.
+    /// After so many steps there is one that doesn't keep to who may touch what, and who is mortal.
     Strays(u32),
     /// It wasn't gone through.
     Unknown(Unknown),
@@ -52,7 +52,6 @@ pub(crate) fn go(
         Stepped::Visible => Ok(Block::Leads(1)),
         Stepped::Invisible => go_on(sharing, place, board, cpu),
         Stepped::Strays => Ok(Block::Strays(0)),
-        Stepped::Terminates => Ok(Block::Unknown(Unknown::Terminates)),
     }
 }
 
@@ -109,7 +108,6 @@ fn go_to(
             Stepped::Invisible => {}
             Stepped::Visible => return Some(Block::Leads(at + 1)),
             Stepped::Strays => return Some(Block::Strays(at)),
-            Stepped::Terminates => return Some(Block::Unknown(Unknown::Terminates)),
             Stepped::Off | Stepped::Nothing | Stepped::Accepted => {
                 return Some(Block::Unknown(Unknown::Waits));
             }

@@ -22,7 +22,7 @@ pub(crate) enum Round {
     /// The place of this index fails.
     Fails(usize),
     /// At the place of this index, after so many steps of a processor, there is one that doesn't keep to who may touch
-    /// what.
+    /// what, and who is mortal.
     Strays(usize, u8, u32),
     /// It isn't known.
     Unknown(Unknown),

@@ -178,12 +178,13 @@ fn owned_words(alloc: Global, sharing: &Sharing, size: u32) -> Result<Vec<u32>, 
     Ok(words)
 }
 
-/// How many turns processors take while it is learned who touches which words, and of how many steps (own choices).
+/// How many turns processors take while it is learned who touches which words and who is mortal, and of how many steps
+/// (own choices).
 const TURNS: u32 = 256;
 
 const TURN: u32 = 16;
 
-/// Learns who touches which words from a place on: first at the step of a processor after so many.
+/// Learns who touches which words and who is mortal from a place on: first at the step of a processor after so many.
 fn learn(sharing: &mut Sharing, board: Board, cpu: u8, count: u32, among: &[Event])
     ensures { StayShared sharing.old sharing.new }
 {

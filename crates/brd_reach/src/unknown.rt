@@ -7,9 +7,8 @@ pub enum Unknown {
     Places,
     /// A processor executes more instructions in a row that no other can see than may be gone through.
     Long,
-    /// A task is ended by another one's ter_tsk.
-    Terminates,
-    /// Who touches which words was still being learned when the search had begun anew as often as it may.
+    /// Who touches which words, or who is mortal, was still being learned when the search had begun anew as often as
+    /// it may.
     Rounds,
     /// Schedules go on to a fair end, of which nothing can be said.
     Fair,

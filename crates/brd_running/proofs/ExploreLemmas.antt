@@ -1,13 +1,16 @@
 -- A search of what was read.
 use Rattle.std.proofs.Common.{◌≡◌, ℕ, ◌<◌, ◌≤◌, true, false, List, refl, sym, inl, inr, subst, arith}
-use Rattle.std.specs.Prelude.{Option, Some, None, IfSome, Result, Ok, Err, MatchResult, option_map}
+use Rattle.std.specs.Prelude.{◌==◌, not, Option, Some, None, IfSome, Result, Ok, Err, MatchResult, option_map}
 use Rattle.brd_board.specs.declared.event.Event.{Event}
 use Rattle.brd_explore.specs.declared.bounds.Bounds.{Bounds}
 use Rattle.brd_image.specs.declared.building.Loaded.{Loaded}
 use Rattle.brd_inputs.specs.Start.{IsLoaded}
 use Rattle.brd_inputs.specs.declared.fault.CommandFault.{CommandFault}
 use Rattle.brd_search.specs.Plans.{IsPlan}
-use Rattle.brd_search.specs.Searches.{Answers, IsFewest, IsShortest}
+use Rattle.brd_search.specs.Searches.{Answers, IsFewest, IsShortest, StopsSo}
+use Rattle.brd_search.specs.declared.searching.NoAnswer.{NoAnswer}
+use Rattle.brd_search.specs.declared.searching.NoAnswer.TheVariants as no_answer
+use Rattle.std.proofs.lemmas.Bool.Decides.{nat_tests}
 use Rattle.brd_search.specs.Shown.{shown}
 use Rattle.brd_search.specs.declared.options.SearchOptions.{SearchOptions}
 use Rattle.brd_search.specs.declared.plan.Plan.{Plan}
@@ -17,7 +20,7 @@ use Rattle.brd_places.specs.declared.left.Left.{Left}
 use Rattle.brd_reach.specs.Reaching.{ReachedSo}
 use Rattle.brd_reach.specs.declared.searching.Reached.TheVariants as reached
 use Rattle.brd_running.specs.ExploreCommand.{IsExplored, IsReached, IsTold, IsUntoldOfAll, KeepsFromExploring}
-use Rattle.brd_running.specs.ExploreCommand.{KeepsFromSearching, Tells, left_by}
+use Rattle.brd_running.specs.ExploreCommand.{KeepsFromSearching, Tells, left_by, no_answer_of}
 use Rattle.brd_running.specs.Saving.{IsOfJournal}
 use Rattle.brd_running.specs.declared.explore_command.Told.{Told}
 use Rattle.brd_running.proofs.SavingLemmas.{of_search}
@@ -67,6 +70,20 @@ told_found options loaded plan bounds events (Ok told) none planned few answers 
 told_found options loaded plan bounds events (Err fault) none planned few answers fewest short keeps =
     of_search options loaded plan bounds events fault planned few answers keeps
 
+-- A search whose time is over.
+
+timed : (time : ℕ) → not (time == 0) ≡ true → 0 < time
+timed time is = grind (arith, nat_tests, is)
+
+pub out-of-time : (options : SearchOptions) (loaded : Loaded) (plan : Plan) (why : NoAnswer) →
+    IsPlan options loaded.board (processors_of loaded.board) loaded.image.symbols plan →
+    StopsSo plan loaded.board (not (plan.time == 0)) why → KeepsFromSearching options loaded (no_answer_of why)
+out-of-time options loaded plan no_answer.NoMemory planned stops = tt
+out-of-time options loaded plan no_answer.Stopped planned stops =
+    inr (inr (subst (λ (n : ℕ). 0 < n) planned.time (timed plan.time stops), tt))
+out-of-time options loaded plan (no_answer.StoppedAfter preemptions) planned stops =
+    inr (inr (subst (λ (n : ℕ). 0 < n) planned.time (timed plan.time stops.0), (plan, planned, stops.1, stops.2)))
+
 -- A search without bounds.
 
 untold-all : (options : SearchOptions) (loaded : Loaded) (fault : CommandFault) → 0 < options.places → IsUntoldOfAll fault →
@@ -75,7 +92,7 @@ untold-all options loaded fault some keeps =
     elim keeps [
       | inl none ↦ subst (KeepsFromSearching options loaded) (sym none) tt
       | inr (inl long) ↦ subst (KeepsFromSearching options loaded) (sym long) some
-      | inr (inr unknown) ↦ subst (KeepsFromSearching options loaded) (sym unknown.1) (inr (some, unknown.2))
+      | inr (inr unknown) ↦ subst (KeepsFromSearching options loaded) (sym unknown.1) (inr (inl (some, unknown.2)))
     ]
 
 pub told-all : (options : SearchOptions) (loaded : Loaded) (plan : Plan) (result : Result Told CommandFault) → 0 < plan.places →

@@ -1,8 +1,11 @@
 //! The command `explore`.
 
-ghost use Rattle.std.specs.Prelude.{◌≡◌, ◌++◌, codes, option_map, true, IfErr, IfOk, IfSome, MatchResult, None, Some};
+ghost use Rattle.std.specs.Prelude.{◌≡◌, ◌++◌, ◌<◌, ◌==◌, codes, not, option_map, true, false};
+ghost use Rattle.std.specs.Prelude.{IfErr, IfOk, IfSome, MatchResult, None, Some};
 ghost use Rattle.brd_running.specs.ExploreCommand.{ExploreFilesEnd, IsExplored, IsTold, KeepsFromSearching};
 ghost use Rattle.brd_running.specs.ExploreCommand.{Begins, KeepsFromExploring, Tells, failed};
+ghost use Rattle.brd_running.specs.ExploreCommand.{no_answer_of};
+ghost use Rattle.brd_search.specs.Searches.{Answers, IsFewest, IsShortest, StopsSo};
 ghost use Rattle.brd_running.specs.ExploreCommand.{IsReached, IsUnknown, IsUntoldOfAll, left_by};
 ghost use Rattle.brd_running.specs.ExploreCommand.{IsHopeless, TellsHeld, TellsHung};
 ghost use Rattle.brd_running.specs.Saving.{IsOfJournal};
@@ -19,8 +22,8 @@ use brd_places::Left;
 use brd_progress::Progress;
 use brd_reach::{Final, Held, Reached, Unknown, never_ends, reach, rest_of, show_all};
 use brd_search::{
-    Extent, Plan, SearchFault, SearchOptions, plan_of, put_all_hold, put_final, put_final_count,
-    put_found, put_hung, put_none, search, shown_events,
+    Extent, NoAnswer, Plan, SearchFault, SearchOptions, Searched, plan_of, put_all_hold, put_final,
+    put_final_count, put_found, put_hung, put_none, search, shown_events,
 };
 use brd_threads::processors;
 use std::alloc::Global;
@@ -143,11 +146,50 @@ fn told_of<P: Progress>(
     if plan.places > 0 {
         return told_of_all(alloc, &loaded.board, symbols, &plan);
     }
-    let mut watch = Searching::new(progress);
-    let searched = search(alloc, &loaded.board, &plan, &mut watch)?;
+    let searched = match searched_by(alloc, &loaded.board, &plan, progress) {
+        Ok(searched) => searched,
+        Err(why) => return Err(no_answer_of(why)),
+    };
     match searched.schedule {
         Some(events) => told_found(alloc, &loaded.board, symbols, &plan, &events),
         None => Ok(told_none(alloc, symbols, &plan, searched.counts)?),
+    }
+}
+
+/// Searches the schedules within bounds, for so many seconds at most if that is asked for.
+fn searched_by<P: Progress>(
+    alloc: Global,
+    board: &Board,
+    plan: &Plan,
+    progress: &mut P,
+) -> Result<Searched, NoAnswer>
+    requires { 0 < plan.now.shard.of }
+    ensures is { IfOk result
+        (λ found. Answers plan.now board.now found.bounds (option_map (λ events. events.items) found.schedule)) }
+    ensures short { plan.now.shortest ≡ true →
+        IfOk result
+        (λ found. IsShortest plan.now board.now found.bounds (option_map (λ events. events.items) found.schedule)) }
+    ensures fewest { plan.now.shortest ≡ false →
+        IfOk result
+        (λ found. IsFewest plan.now board.now found.bounds (option_map (λ events. events.items) found.schedule)) }
+    ensures stops { IfErr result (StopsSo plan.now board.now (not (plan.now.time == 0))) }
+{
+    if plan.time == 0 {
+        return search(alloc, board, plan, &mut Searching::new(progress));
+    }
+    search(alloc, board, plan, &mut Timed::new(progress, plan.time))
+}
+
+/// The fault of a search that has come to no answer.
+fn no_answer_of(why: NoAnswer) -> CommandFault
+    ensures { result ≡ no_answer_of why }
+{
+    match why {
+        NoAnswer::NoMemory => CommandFault::NoMemory,
+        NoAnswer::Stopped => CommandFault::Search(SearchFault::OutOfTime),
+        NoAnswer::StoppedAfter(preemptions) => {
+            CommandFault::Search(SearchFault::OutOfTimeAfter { preemptions })
+        }
     }
 }
 
@@ -346,7 +388,6 @@ fn fault_of(why: Unknown) -> SearchFault
     match why {
         Unknown::Places => SearchFault::MorePlaces,
         Unknown::Long => SearchFault::LongBlock,
-        Unknown::Terminates => SearchFault::Terminates,
         Unknown::Rounds | Unknown::Fair | Unknown::Instruction | Unknown::Waits => {
             SearchFault::Unlearned
         }
@@ -460,10 +501,61 @@ impl<'a, P: Progress> Searching<'a, P> {
 }
 
 impl<'a, P: Progress> Watch for Searching<'a, P> {
-    fn tried(&mut self, schedules: u64) {
+    ghost use Rattle.std.specs.Prelude.{false};
+
+    ghost may_stop = { false };
+
+    fn tried(&mut self, schedules: u64) -> bool {
         if schedules / PIECE != self.told / PIECE {
             self.told = schedules;
             self.progress.tried(schedules);
         }
+        true
+    }
+}
+
+/// How many turns a search takes before it is asked anew whether its time is over (own choice).
+const TURNS: u32 = 1_024;
+
+/// The same, for so many seconds at most.
+#[derive(Drop)]
+struct Timed<'a, P> {
+    progress: &'a mut P,
+    /// How many were tried when it was told last.
+    told: u64,
+    /// How many seconds the search may take.
+    seconds: u32,
+    /// How many turns it takes before it is asked anew.
+    turns: u32,
+}
+
+impl<'a, P: Progress> Timed<'a, P> {
+    /// A search that begins.
+    fn new(progress: &'a mut P, seconds: u32) -> Timed<'a, P> {
+        Timed {
+            progress,
+            told: 0,
+            seconds,
+            turns: TURNS,
+        }
+    }
+}
+
+impl<'a, P: Progress> Watch for Timed<'a, P> {
+    ghost use Rattle.std.specs.Prelude.{true};
+
+    ghost may_stop = { true };
+
+    fn tried(&mut self, schedules: u64) -> bool {
+        if schedules / PIECE != self.told / PIECE {
+            self.told = schedules;
+            self.progress.tried(schedules);
+        }
+        if self.turns > 0 {
+            self.turns -= 1;
+            return true;
+        }
+        self.turns = TURNS;
+        !self.progress.is_over(self.seconds)
     }
 }

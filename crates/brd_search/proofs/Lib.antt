@@ -1,3 +1,4 @@
 pub mod EscapeLemmas
 pub mod PlanLemmas
+pub mod StopLemmas
 pub mod SummandLemmas

@@ -27,7 +27,7 @@ use Rattle.brd_explore.specs.declared.wanted.Wanted.{Wanted}
 use Rattle.brd_search.specs.Escapes.{bytes_of}
 use Rattle.brd_search.specs.declared.fault.SearchFault.{SearchFault}
 use Rattle.brd_search.specs.declared.fault.SearchFault.TheVariants.{NoMemory, Events, Fair, Remember, Lines, NoLines}
-use Rattle.brd_search.specs.declared.fault.SearchFault.TheVariants.{Twice, NoHandler, Ends, Places, Reach, Never}
+use Rattle.brd_search.specs.declared.fault.SearchFault.TheVariants.{Twice, NoHandler, Ends, Places, Reach, Never, Time}
 use Rattle.brd_search.specs.declared.fault.SearchFault.TheVariants.{Word, NoSymbol, Console, Shard, Raises as BadRaises}
 use Rattle.brd_search.specs.declared.raises.Raises.{Raises}
 use Rattle.brd_search.specs.declared.options.Looks.{Looks}
@@ -394,13 +394,17 @@ bounds_of options said = record {
 -- options ask for nothing that a search doesn't know for which events and preemptions have no bound
 abbrev pub is_plain : SearchOptions → Bool
 is_plain options =
-    options.sizes.fair == 0 && options.remember == 0 && not options.shortest
+    options.sizes.fair == 0 && options.remember == 0 && options.time == 0 && not options.shortest
     && not (is_some (text_of options.shard)) && not (is_some (text_of options.looks.reach))
 
 -- They don't ask for such a search, nor for boards from which no schedule comes to an end, or they ask for nothing
 -- else.
 abbrev pub places_fit : SearchOptions → Bool
 places_fit options = if options.places == 0 then not (options.livelock || options.finals) else is_plain options
+
+-- a search that may take so many seconds isn't to find the shortest schedule
+abbrev pub time_fits : SearchOptions → Bool
+time_fits options = not (options.shortest && not (options.time == 0))
 
 -- A plan is what options ask for, on a board of so many processors whose image has these symbols. Each line that may be
 -- raised has a handler there, and is named once.
@@ -418,10 +422,12 @@ pub record IsPlan (options : SearchOptions) (b : BoardState) (cpus : ℕ) (symbo
     pub is_one : plan.shard.number < plan.shard.of
     pub shortest : plan.shortest ≡ options.shortest
     pub remember : plan.remember ≡ options.remember
+    pub time : plan.time ≡ options.time
     pub places : plan.places ≡ options.places
     pub livelock : plan.livelock ≡ options.livelock
     pub finals : plan.finals ≡ options.finals
     pub plain : places_fit options ≡ true
+    pub timely : time_fits options ≡ true
 
 -- The lines of `--lines` aren't those of the raises, for this reason.
 pub record HaveNoLines (options : SearchOptions) (fault : SearchFault) : Type 0 where
@@ -448,6 +454,7 @@ KeepsFromPlanning options b cpus symbols NoHandler = IsUnfit options cpus (list_
 KeepsFromPlanning options b cpus symbols Shard = shard_of (text_of options.shard) ≡ None
 KeepsFromPlanning options b cpus symbols Places = (0 < options.places) × (is_plain options ≡ false)
 KeepsFromPlanning options b cpus symbols Ends = (options.places ≡ 0) × ((options.livelock || options.finals) ≡ true)
+KeepsFromPlanning options b cpus symbols Time = time_fits options ≡ false
 KeepsFromPlanning options b cpus symbols fault = KeepsFromWanting options.looks options.sizes.fair symbols fault
 
 -- Only private contracts name the next ones.
@@ -462,6 +469,11 @@ DontFit options _ = ⊥
 abbrev pub IsOfEnds : Bool → SearchFault → Type 0
 IsOfEnds asked Ends = asked ≡ true
 IsOfEnds asked _ = ⊥
+
+-- the time doesn't fit
+abbrev pub IsOfTime : Bool → SearchFault → Type 0
+IsOfTime fits Time = fits ≡ false
+IsOfTime fits _ = ⊥
 
 -- the bounds that options give, whose numbers are within limits
 pub record IsSized (options : SearchOptions) (said : Raises) (bounds : Bounds) : Type 0 where

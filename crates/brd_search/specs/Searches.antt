@@ -1,5 +1,5 @@
 -- What a search answers.
-use Rattle.std.specs.Prelude.{◌≡◌, ◌⊎◌, ℕ, ◌-◌, ◌≤◌, ◌<◌, min, List, length, Option, Some, None}
+use Rattle.std.specs.Prelude.{◌≡◌, ◌⊎◌, ℕ, ◌-◌, ◌≤◌, ◌<◌, min, Bool, true, List, length, Option, Some, None}
 use Rattle.brd_board.specs.declared.event.Event.{Event}
 use Rattle.brd_board.specs.Board.{BoardState}
 use Rattle.brd_explore.specs.declared.bounds.Bounds.{Bounds}
@@ -7,6 +7,8 @@ use Rattle.brd_explore.specs.Schedules.{start}
 use Rattle.brd_explore.specs.Searching.{IsFound}
 use Rattle.brd_explore.specs.Shards.{NoneFailsInShard}
 use Rattle.brd_search.specs.declared.plan.Plan.{Plan}
+use Rattle.brd_search.specs.declared.searching.NoAnswer.{NoAnswer}
+use Rattle.brd_search.specs.declared.searching.NoAnswer.TheVariants as no_answer
 
 -- bounds leave no more than others: as many ticks and raises, of which as many are owed, and not more events and
 -- preemptions
@@ -32,11 +34,24 @@ abbrev pub Answers : Plan → BoardState → Bounds → Option (List Event) → 
 Answers plan b bounds (Some events) = FailsWithin plan b bounds events
 Answers plan b bounds None = (bounds ≡ plan.bounds) × NoneWithin plan b plan.bounds
 
+-- none of the shard fails within the plan's bounds with fewer preemptions than these
+abbrev pub NoneBelow : Plan → BoardState → ℕ → Type 0
+NoneBelow plan b preemptions =
+    (fewer : ℕ) → fewer < preemptions → NoneWithin plan b (record plan.bounds { preemptions = fewer })
+
 -- None fails with fewer preemptions than the bounds leave of a schedule that was found, and else within the plan's.
 abbrev pub IsFewest : Plan → BoardState → Bounds → Option (List Event) → Type 0
-IsFewest plan b bounds (Some events) = (preemptions : ℕ) → preemptions < bounds.preemptions →
-    NoneWithin plan b (record plan.bounds { preemptions = preemptions })
+IsFewest plan b bounds (Some events) = NoneBelow plan b bounds.preemptions
 IsFewest plan b bounds None = Unit {0}
+
+-- Why a search has come to no answer is so: it was stopped only by who may stop it, and where it is said that none fails
+-- with up to so many preemptions, which are fewer than the plan's, none of the shard does within the other bounds.
+abbrev pub StopsSo : Plan → BoardState → Bool → NoAnswer → Type 0
+StopsSo plan b may no_answer.NoMemory = Unit {0}
+StopsSo plan b may no_answer.Stopped = may ≡ true
+StopsSo plan b may (no_answer.StoppedAfter preemptions) =
+    (may ≡ true) × (preemptions < plan.bounds.preemptions)
+    × NoneWithin plan b (record plan.bounds { preemptions = preemptions })
 
 -- the plan's bounds, with one event fewer than a schedule has that was found, and than the bounds of it
 abbrev pub shorter : Plan → Bounds → List Event → Bounds

@@ -61,8 +61,17 @@ pub enum SearchFault {
     #[error("--out names the object file or the configuration")]
     OverInput,
     /// A search without bounds is to do what it doesn't know.
-    #[error("--places goes with none of --fair, --reach, --remember, --shard and --shortest")]
+    #[error("--places goes with none of --fair, --reach, --remember, --shard, --shortest and --time")]
     Places,
+    /// A search that may take so many seconds is to find the shortest schedule.
+    #[error("--time doesn't go with --shortest")]
+    Time,
+    /// The time of a search is over, and of no schedule it is known whether it fails.
+    #[error("not known: --time is over")]
+    OutOfTime,
+    /// The time of a search is over: none fails with up to so many preemptions, which are fewer than were asked for.
+    #[error("not known: --time is over, but none fails with --preemptions {preemptions}")]
+    OutOfTimeAfter { preemptions: u32 },
     /// It is asked for what a search without bounds alone knows.
     #[error("--livelock and --finals go with --places")]
     Ends,
@@ -72,9 +81,6 @@ pub enum SearchFault {
     /// There is a block nearly without end, which isn't a loop.
     #[error("not known: a processor executes 16,777,216 instructions in a row that no other can see")]
     LongBlock,
-    /// A task is ended by another one.
-    #[error("not known: a task ends another one by ter_tsk; a search within bounds knows that call")]
-    Terminates,
     /// Something that is not to be expected.
     #[error("not known: it isn't learned who uses which memory")]
     Unlearned,

@@ -22,7 +22,7 @@ pub use fault::SearchFault;
 pub use options::{Looks, SearchOptions, Sizes};
 pub use plan::{Plan, plan_of};
 pub use raises::Raises;
-pub use searching::{Searched, search};
+pub use searching::{NoAnswer, Searched, search};
 pub use shown::shown_events;
 pub use told::{
     Extent, put_all_hold, put_failure, put_final, put_final_count, put_found, put_hung, put_none,

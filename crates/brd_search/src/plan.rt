@@ -3,7 +3,7 @@
 ghost use Rattle.std.specs.Prelude.{MatchResult};
 ghost use Rattle.std.specs.Prelude.{◌≡◌, true, false};
 ghost use Rattle.brd_search.specs.Plans.{IsPlan, KeepsFromPlanning, IsSized, IsOfSizes, IsShard, IsNoShard, text_of};
-ghost use Rattle.brd_search.specs.Plans.{DontFit, IsOfEnds, is_plain, places_fit};
+ghost use Rattle.brd_search.specs.Plans.{DontFit, IsOfEnds, IsOfTime, is_plain, places_fit, time_fits};
 
 use crate::coming::{check_lines, may_come};
 use crate::fault::SearchFault;
@@ -40,6 +40,8 @@ pub struct Plan {
     pub shortest: bool,
     /// How many MiB of places are remembered at most.
     pub remember: u32,
+    /// How many seconds the search may take; 0: any number.
+    pub time: u32,
     /// Through how many places a search goes at most for which events and preemptions have no bound; 0: they have.
     pub places: u32,
     /// Whether such a search also looks for a board from which no schedule comes to an end.
@@ -58,6 +60,7 @@ impl Drop for Plan {
             shard: _,
             shortest: _,
             remember: _,
+            time: _,
             places: _,
             livelock: _,
             finals: _,
@@ -81,6 +84,7 @@ pub fn plan_of(
         (KeepsFromPlanning options.now board.now cpus symbols.now) }
 {
     check_places(options)?;
+    check_time(options)?;
     let raises = raises_of(options.raises)?;
     let bounds = bounds_of(options, raises)?;
     let shard = shard_of(options.shard)?;
@@ -94,6 +98,7 @@ pub fn plan_of(
         shard,
         shortest: options.shortest,
         remember: options.remember,
+        time: options.time,
         places: options.places,
         livelock: options.livelock,
         finals: options.finals,
@@ -124,12 +129,23 @@ fn check_bounded(asked: bool) -> Result<(), SearchFault>
     Ok(())
 }
 
+/// A search that may take so many seconds answers with the first schedule that it finds.
+fn check_time(options: &SearchOptions<'_>) -> Result<(), SearchFault>
+    ensures { MatchResult result (λ _. time_fits options.now ≡ true) (IsOfTime (time_fits options.now)) }
+{
+    if options.shortest && options.time != 0 {
+        return Err(SearchFault::Time);
+    }
+    Ok(())
+}
+
 /// Whether options ask for nothing that a search without bounds doesn't know.
 fn is_plain(options: &SearchOptions<'_>) -> bool
     ensures { result ≡ is_plain options.now }
 {
     options.sizes.fair == 0
         && options.remember == 0
+        && options.time == 0
         && !options.shortest
         && options.shard.is_none()
         && options.looks.reach.is_none()

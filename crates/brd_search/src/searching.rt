@@ -1,14 +1,17 @@
 //! The search itself: with few preemptions first, and then shorter.
 
-ghost use Rattle.std.specs.Prelude.{option_map, ◌≡◌, ◌<◌, true, false, IfOk, IfSome, IfNone};
-ghost use Rattle.brd_search.specs.Searches.{Answers, IsFewer, IsFewest, IsLeast, IsShortest};
+ghost use Rattle.std.specs.Prelude.{option_map, ◌≡◌, ◌≤◌, ◌<◌, Bool, true, false, IfErr, IfOk, IfSome, IfNone};
+ghost use Rattle.brd_search.specs.Searches.{Answers, IsFewer, IsFewest, IsLeast, IsShortest, NoneBelow, StopsSo};
+ghost use Rattle.brd_search.specs.declared.plan.Plan.{Plan as PlanOf};
+ghost use Rattle.brd_board.specs.Board.{BoardState as BoardOf};
 ghost use Rattle.brd_explore.specs.Schedules.{start};
+ghost use Rattle.brd_explore.specs.Searching.{HaltsSo};
 ghost use Rattle.brd_explore.specs.Shards.{AnswersInShard};
 
 use crate::plan::Plan;
 use brd_base::NoMemory;
 use brd_board::{Board, Event};
-use brd_explore::{Bounds, Counts, Found, Watch, find_in_shard};
+use brd_explore::{Bounds, Counts, Found, Halt, Watch, find_in_shard};
 use std::alloc::Global;
 
 /// What a search came to.
@@ -22,6 +25,29 @@ pub struct Searched {
     pub counts: Counts,
 }
 
+/// Why a search has come to no answer.
+#[derive(Clone, Copy, Debug, PartialEq, Eq)]
+pub enum NoAnswer {
+    /// A growth was refused: there is no memory left.
+    NoMemory,
+    /// Who watches wanted no more of it, and of no schedule it is known whether it fails.
+    Stopped,
+    /// Who watches wanted no more of it: none fails with up to so many preemptions, which are fewer than were asked
+    /// for.
+    StoppedAfter(u32),
+}
+
+impl From<NoMemory> for NoAnswer {
+    ghost use Rattle.std.specs.Prelude.{◌≡◌};
+    ghost use Rattle.brd_search.specs.declared.searching.NoAnswer.TheVariants.{NoMemory as no_memory};
+
+    ghost from_gives = { λ _ why. why ≡ no_memory };
+
+    fn from(_e: NoMemory) -> Self {
+        NoAnswer::NoMemory
+    }
+}
+
 /// Searches the schedules of a board for one that fails: those without preemptions first, then those with one, and so
 /// on; and then, if that is asked for, for one with fewer events, until there is none.
 pub fn search<W: Watch>(
@@ -29,10 +55,11 @@ pub fn search<W: Watch>(
     board: &Board,
     plan: &Plan,
     watch: &mut W,
-) -> Result<Searched, NoMemory>
+) -> Result<Searched, NoAnswer>
     requires { 0 < plan.now.shard.of }
     ensures is { IfOk result
         (λ found. Answers plan.now board.now found.bounds (option_map (λ events. events.items) found.schedule)) }
+    ensures stops { IfErr result (StopsSo plan.now board.now W.may_stop) }
     ensures short { plan.now.shortest ≡ true →
         IfOk result
         (λ found. IsShortest plan.now board.now found.bounds (option_map (λ events. events.items) found.schedule)) }
@@ -53,10 +80,11 @@ fn with_fewest<W: Watch>(
     board: &Board,
     plan: &Plan,
     watch: &mut W,
-) -> Result<Searched, NoMemory>
+) -> Result<Searched, NoAnswer>
     requires { 0 < plan.now.shard.of }
     ensures is { IfOk result
         (λ found. Answers plan.now board.now found.bounds (option_map (λ events. events.items) found.schedule)) }
+    ensures stops { IfErr result (StopsSo plan.now board.now W.may_stop) }
     ensures fewest { IfOk result
         (λ found. IsFewest plan.now board.now found.bounds (option_map (λ events. events.items) found.schedule)) }
 {
@@ -65,19 +93,40 @@ fn with_fewest<W: Watch>(
             preemptions,
             ..plan.bounds
         };
-        let searched = within(alloc, board, plan, bounds, watch)?;
+        let searched = match within(alloc, board, plan, bounds, watch) {
+            Ok(searched) => searched,
+            Err(halt) => return Err(no_answer(halt, preemptions)),
+        };
         if searched.schedule.is_some() {
             return Ok(searched);
         }
         // More preemptions make no difference then.
         if searched.counts.spare > 0 {
-            let whole = within(alloc, board, plan, plan.bounds, watch)?;
+            let whole = match within(alloc, board, plan, plan.bounds, watch) {
+                Ok(whole) => whole,
+                Err(halt) => return Err(no_answer(halt, preemptions + 1)),
+            };
             if whole.schedule.is_none() {
                 return Ok(whole);
             }
         }
     }
-    within(alloc, board, plan, plan.bounds, watch)
+    match within(alloc, board, plan, plan.bounds, watch) {
+        Ok(searched) => Ok(searched),
+        Err(halt) => Err(no_answer(halt, plan.bounds.preemptions)),
+    }
+}
+
+/// Why there is no answer, if it is known that none fails with fewer preemptions than these.
+fn no_answer(halt: Halt, preemptions: u32) -> NoAnswer
+    ensures { (plan : PlanOf) (b : BoardOf) (may : Bool) → HaltsSo may halt → preemptions ≤ plan.bounds.preemptions →
+        NoneBelow plan b preemptions → StopsSo plan b may result }
+{
+    match halt {
+        Halt::NoMemory => NoAnswer::NoMemory,
+        Halt::Stopped if preemptions == 0 => NoAnswer::Stopped,
+        Halt::Stopped => NoAnswer::StoppedAfter(preemptions - 1),
+    }
 }
 
 /// Searches the schedules within bounds.
@@ -87,13 +136,14 @@ fn within<W: Watch>(
     plan: &Plan,
     bounds: Bounds,
     watch: &mut W,
-) -> Result<Searched, NoMemory>
+) -> Result<Searched, Halt>
     requires { 0 < plan.now.shard.of }
     ensures is { IfOk result
         (λ found.
         AnswersInShard plan.now.wanted plan.now.shard plan.now.among (start board.now bounds)
         (option_map (λ events. events.items) found.schedule)) }
     ensures bounds { IfOk result (λ found. found.bounds ≡ bounds) }
+    ensures halts { IfErr result (HaltsSo W.may_stop) }
 {
     let Found { schedule, counts } = find_in_shard(
         alloc,
@@ -150,17 +200,21 @@ fn shortest<W: Watch>(
     plan: &Plan,
     found: Searched,
     watch: &mut W,
-) -> Result<Searched, NoMemory>
+) -> Result<Searched, NoAnswer>
     requires of { 0 < plan.now.shard.of }
     requires is { Answers plan.now board.now found.bounds (option_map (λ events. events.items) found.schedule) }
     ensures is { IfOk result
         (λ found. Answers plan.now board.now found.bounds (option_map (λ events. events.items) found.schedule)) }
     ensures short { IfOk result
         (λ found. IsShortest plan.now board.now found.bounds (option_map (λ events. events.items) found.schedule)) }
+    ensures stops { IfErr result (StopsSo plan.now board.now W.may_stop) }
 {
     let mut best = found;
     while let Some(bounds) = fewer(plan, &best) {
-        let searched = within(alloc, board, plan, bounds, watch)?;
+        let searched = match within(alloc, board, plan, bounds, watch) {
+            Ok(searched) => searched,
+            Err(halt) => return Err(no_answer(halt, 0)),
+        };
         if searched.schedule.is_none() {
             return Ok(best);
         }

@@ -83,6 +83,8 @@ class Texts:
             f"CRE_FLG({number}, {{{self.attributes('TA_TPRI', 'TA_WMUL', 'TA_CLR')}, {random.randrange(4)}}});",
             f"CRE_DTQ({number}, {{{order}, {self.among(0, 1, 16, 256)}, NULL}});",
             f"CRE_SPN({number}, {{{self.among('TA_NULL', 'TA_NULL', '0')}}});",
+            f"CRE_MTX({number}, {{{self.among('TA_TFIFO', 'TA_TPRI', 'TA_INHERIT', 'TA_CEILING')}, "
+            f"{random.randrange(1, 17)}}});",
             f"DEF_INH({random.randrange(32)}, {{TA_HLNG, {start}}});")
 
     def configuration(self):

@@ -1,4 +1,4 @@
-# A mutex.
+# A mutex: task 2 takes it when it is free, or when its wait ends, by the journal.
 one:    addiu $a0, $0, 1
         addiu $v0, $0, 77
         syscall                 # loc_mtx(1)

@@ -167,6 +167,7 @@ const SEARCH: SearchOptions<'static> = SearchOptions {
     shortest: false,
     shard: None,
     remember: 0,
+    time: 0,
     places: 0,
     livelock: false,
     finals: false,

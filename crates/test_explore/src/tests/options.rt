@@ -36,6 +36,7 @@ const OPTIONS: SearchOptions = SearchOptions {
     shortest: false,
     shard: None,
     remember: 0,
+    time: 0,
     places: 0,
     livelock: false,
     finals: false,

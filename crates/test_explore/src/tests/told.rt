@@ -23,44 +23,34 @@ struct Case {
     told: &'static str,
 }
 
-const LOST: Looks = Looks {
+const NOTHING: Looks = Looks {
     exception: false,
     deadlock: false,
     on: false,
-    words: Some("0x80000000=2"),
+    words: None,
     console: None,
     reach: None,
     never: None,
+};
+
+const LOST: Looks = Looks {
+    words: Some("0x80000000=2"),
+    ..NOTHING
 };
 
 const DEAD: Looks = Looks {
-    exception: false,
     deadlock: true,
-    on: false,
-    words: None,
-    console: None,
-    reach: None,
-    never: None,
+    ..NOTHING
 };
 
 const NEVER: Looks = Looks {
-    exception: false,
-    deadlock: false,
-    on: false,
-    words: None,
-    console: None,
-    reach: None,
     never: Some("1 + 0x2 == 3, 4294967295 + 4294967295 < 4294967295"),
+    ..NOTHING
 };
 
 const UNSEEN: Looks = Looks {
-    exception: false,
-    deadlock: false,
-    on: false,
-    words: None,
-    console: None,
-    reach: None,
     never: Some("1 + 2 != 3,4294967295 + 1 <= 0"),
+    ..NOTHING
 };
 
 const CASES: &[Case] = &[

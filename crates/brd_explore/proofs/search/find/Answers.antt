@@ -12,8 +12,8 @@ run-requires-clause-known g c = record {
   pending = pending-none c.args.wanted.now c.args.among.now c.in_ok-search.search c.new-known.result c.new-known.ensures.pending;
 }
 
-pub returns : goal.returns
-returns g c =
+pub returns-clause-is : goal.returns-clause-is
+returns-clause-is g c =
     finds c.args.wanted.now c.args.among.now (start c.args.board.now c.args.bounds) c.in_ok-search.search c.run.new.self c.in_ok-found.found
     (option_map (λ (v : Vec Event Global). v.items) c.into_found.result.schedule)
     (record {

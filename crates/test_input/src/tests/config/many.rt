@@ -4,12 +4,13 @@ use super::super::numbered::put_all;
 use brd_config::{Config, TaskConfig, parse};
 use std::alloc::{AllocError, Global};
 
-/// A task, a semaphore, a flag, a queue and a spin lock of an ID.
+/// A task, a semaphore, a flag, a queue, a spin lock and a mutex of an ID.
 const OBJECTS: &str = "CRE_TSK(#, {TA_ACT, #, task, 16, 256, NULL});
 CRE_SEM(#, {TA_TPRI, #, 255});
 CRE_FLG(#, {TA_WMUL, #});
 CRE_DTQ(#, {TA_TFIFO, #, NULL});
 CRE_SPN(#, {TA_NULL});
+CRE_MTX(#, {TA_TFIFO, 16});
 ";
 
 /// A handler of a line.
@@ -17,7 +18,7 @@ const HANDLER: &str = "DEF_INH(#, {TA_HLNG, #});\n";
 
 /// Puts a text with the objects of each ID and a handler of each line at the end.
 fn put_text(text: &mut String) -> Result<(), AllocError> {
-    text.push_str("BOARD(8, 0x1000000);\n")?;
+    text.push_str("PROFILE(STANDARD);\nBOARD(8, 0x1000000);\n")?;
     put_all(text, OBJECTS, 1, 255)?;
     put_all(text, HANDLER, 0, 31)
 }
@@ -39,6 +40,7 @@ fn has_all(config: &Config) -> bool {
         && config.flags.len() == 255
         && config.queues.len() == 255
         && config.spin_locks.len() == 255
+        && config.mutexes.len() == 255
         && config.handlers.len() == 32
         && are_in_order(config.tasks.as_slice())
 }
@@ -57,6 +59,9 @@ fn has_last_ones(config: &Config) -> bool {
     let [.., spin_lock] = config.spin_locks.as_slice() else {
         return false;
     };
+    let [.., mutex] = config.mutexes.as_slice() else {
+        return false;
+    };
     let [.., handler] = config.handlers.as_slice() else {
         return false;
     };
@@ -68,6 +73,8 @@ fn has_last_ones(config: &Config) -> bool {
         && queue.id == 255
         && queue.capacity == 255
         && spin_lock.id == 255
+        && mutex.id == 255
+        && mutex.ceiling == 16
         && handler.line == 31
         && handler.processor == 1
 }

@@ -1,8 +1,7 @@
-use Rattle.std.proofs.Common.{List, sym, ap, subst, ◌∙◌}
+use Rattle.std.proofs.Common.{sym, ap, subst, ◌∙◌}
 use Rattle.brd_board.specs.Board.{BoardState, Happened}
-use Rattle.brd_blocks.specs.declared.owner.Owner.{Owner}
 use Rattle.brd_blocks.specs.declared.stepped.Stepped.{Stepped}
-use Rattle.brd_blocks.specs.Owning.{sharing_of}
+use Rattle.brd_blocks.specs.Owning.{Known, sharing_of}
 use Rattle.brd_blocks.specs.Looking.{look_of, stepped_of}
 use Rattle.brd_blocks.specs.Stepping.{IsStepped}
 use Rattle.brd_blocks.proofs.StepLemmas.{step-so}
@@ -10,12 +9,11 @@ use Rattle.brd_blocks.proofs.sharing.Sharing.step.Goals as goal
 
 pub returns-clause-exactly : goal.returns-clause-exactly
 returns-clause-exactly c =
-    let owners : List Owner = c.args.self.now in
+    let known : Known = c.args.self.now in
     let board : BoardState = c.args.board.now in
     c.stepped_of.ensures
-    ∙ ap (λ look. stepped_of look c.event_apart-report.result)
-    (c.look_at-look.ensures ∙ ap (λ (it : List Owner). look_of it board c.args.cpu) c.owners.ensures)
-    ∙ ap (λ (done : Happened). stepped_of (look_of owners board c.args.cpu) done.report) c.event_apart-report.ensures
+    ∙ ap (λ look. stepped_of look c.event_apart-report.result) c.look_at-look.ensures
+    ∙ ap (λ (done : Happened). stepped_of (look_of known board c.args.cpu) done.report) c.event_apart-report.ensures
 
 pub returns-clause-is : goal.returns-clause-is
 returns-clause-is c links =
