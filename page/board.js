@@ -441,6 +441,8 @@ function wordsOf(i) {
 // ---- what stands in the end
 
 const after = (i) => "event " + (from + i);
+// What is said of what happened in an event that this page doesn't have.
+const BEFORE = "before this page begins";
 const textsOf = (pattern) => events.flatMap((event, i) => {
   const found = event.t === undefined ? null : pattern.exec(event.t);
   return found ? [{ i, found }] : [];
@@ -470,10 +472,10 @@ const overwritten = () => counted([...over].map(([i, { store }]) => ({ text: exe
 const spoilt = () => counted([...unkept].map(([i, { called, changed }]) => ({ text: placeOf(called.place)
   + " returns with another " + changed.map((number) => NAMES[number]).join(", ") + " than it was called with", i })));
 
-// Since which event a task is in its state.
-function since(id, last) {
+// Since which event a task is in its state; -1 where it was at the first position.
+function since(id) {
   let found = -1;
-  let name = "";
+  let name = run.tasks.find((task) => task[0] === id)[1];
   events.forEach((event, i) => {
     for (const entry of event.s || []) {
       if (entry[0] !== id) continue;
@@ -481,19 +483,29 @@ function since(id, last) {
       name = entry[1];
     }
   });
-  return name === last ? found : -1;
+  return found;
 }
 
 function waiting(state) {
   return state.tasks.filter((task) => task[4] !== undefined).map(([id, name, , , reason, object, due]) => ({
     text: "task " + id + " is " + name + " " + reason + (object ? " " + object : "")
-      + (due === undefined ? "" : ", until tick " + due), i: since(id, name) }));
+      + (due === undefined ? "" : ", until tick " + due), i: since(id) }))
+    .map(({ text, i }) => ({ text: text + (i < 0 && from > 0 ? ", since " + BEFORE : ""), i }));
 }
 
-// The tasks that wait for each other, of which each waits for a semaphore whose units none but they have, or a mutex.
-const circle = () => run.circle.map(([id, lock, units, mutex]) => "task " + id + " waits for "
-  + (mutex ? "mutex " : "semaphore ") + lock
-  + ", which " + units.map(([task, at]) => "task " + task + " took at event " + at).join(" and "));
+// Processors that an exception has stopped before the first event here.
+const stopped = (state) => run.cpus
+  .filter(([number, kind]) => kind === "stopped" && state.cpus[number - 1].who === "stopped")
+  .map(([number]) => ({ text: "processor " + number + " is stopped by an exception " + BEFORE }));
+
+// A link to the position after an event, by its number in the run; of one before this page words that say so.
+const linkTo = (at) => (at < from ? ["event " + at + ", " + BEFORE] : [eventLink(at - from, "event " + at)]);
+
+// The tasks that wait for each other, of which each waits for a semaphore whose units none but they have, or a mutex:
+// texts and links.
+const circle = () => run.circle.flatMap(([id, lock, units, mutex], k) => [(k === 0 ? "" : "; ") + "task " + id
+  + " waits for " + (mutex ? "mutex " : "semaphore ") + lock + ", which ", ...units.flatMap(([task, at], n) =>
+  [(n === 0 ? "" : " and ") + "task " + task + " took at ", ...linkTo(at)])]);
 
 // How many own steps a processor that goes round needs for a round that changes nothing; 0 if none is seen.
 function round(number, end) {
@@ -548,14 +560,18 @@ function endOf() {
       + "waits" }]);
   }
   const those = circle();
-  if (those.length > 0) add(["circular wait"], [{ text: "circular wait: " + those.join("; ") }]);
+  if (those.length > 0) add(["circular wait"], [{ parts: ["circular wait: ", ...those] }]);
   add(["a processor spins", "processors spin"], spins(state));
-  add(["an exception", "exceptions"], faults());
+  add(["an exception", "exceptions"], stopped(state).concat(faults()));
   add(["a store over an unseen one", "kinds of stores over unseen ones"], overwritten());
   add(["a register that a function didn't keep", "kinds of registers that functions didn't keep"], spoilt());
   add(["an error of a call", "kinds of errors of calls"], refused());
   add(["an interrupt without effect", "interrupts without effect"], lost());
   found.push(...waiting(state));
+  if (from > 0) {
+    found.push({ text: "of what went wrong before event " + from + ", with which this page begins, no more is said "
+      + "here: trace --summary has it" });
+  }
   return { heads, found };
 }
 
@@ -565,10 +581,10 @@ const MOST = 40;
 function showEnd() {
   const { heads, found } = endOf();
   byId("end").textContent = (to === from ? "At the only position: " : "In the end: ") + heads.join("; ") + ".";
-  const rows = found.slice(0, MOST).map(({ text, i }) => {
+  const rows = found.slice(0, MOST).map(({ text, parts, i }) => {
     const line = make("li");
     if (i !== undefined && i >= 0) line.append(eventLink(i, after(i)), ": ");
-    line.append(text);
+    line.append(...(parts || [text]));
     return line;
   });
   if (found.length > MOST) rows.push(make("li", "and " + (found.length - MOST) + " more"));
