@@ -623,11 +623,15 @@ if (cursor) {
   });
 }
 
+// Puts the mark of the position into the picture, and scrolls that so that it is seen.
 function showCursor() {
   if (!cursor) return;
   const x = LEFT + (events.length === 0 ? 0 : SPAN * (position - from) / events.length);
   cursor.setAttribute("x1", x);
   cursor.setAttribute("x2", x);
+  const box = svg.parentElement;
+  const place = x / svg.viewBox.baseVal.width * svg.clientWidth - box.scrollLeft;
+  if (place < 0 || place > box.clientWidth) box.scrollLeft += place - box.clientWidth / 2;
 }
 
 // A button that stands for an item.

@@ -6,7 +6,7 @@ pub(crate) const FRONT: &str = r##"<!DOCTYPE html>
 <head>
 <meta charset="utf-8">
 <meta name="viewport" content="width=device-width, initial-scale=1">
-<meta http-equiv="Content-Security-Policy" content="default-src 'none'; style-src 'sha256-W9botDGDLk0JmGEahRZsutuLH+eaN19tPwnNRcY7WkI='; script-src 'sha256-oiIM9L+RkbozZxQFYu3MhQTrXKmhTv9umU3hfs5zQTM='; base-uri 'none'; form-action 'none'">
+<meta http-equiv="Content-Security-Policy" content="default-src 'none'; style-src 'sha256-W9botDGDLk0JmGEahRZsutuLH+eaN19tPwnNRcY7WkI='; script-src 'sha256-jrDSQISois6IT67Dr1dVjwzl+gLUmVRX9TchxCETemw='; base-uri 'none'; form-action 'none'">
 <title>A run of the board</title>
 <style>/* The look of a page of `board trace --format html`: light or dark as the reader's system is, and for paper. */
 :root {
@@ -861,11 +861,15 @@ if (cursor) {
   });
 }
 
+// Puts the mark of the position into the picture, and scrolls that so that it is seen.
 function showCursor() {
   if (!cursor) return;
   const x = LEFT + (events.length === 0 ? 0 : SPAN * (position - from) / events.length);
   cursor.setAttribute("x1", x);
   cursor.setAttribute("x2", x);
+  const box = svg.parentElement;
+  const place = x / svg.viewBox.baseVal.width * svg.clientWidth - box.scrollLeft;
+  if (place < 0 || place > box.clientWidth) box.scrollLeft += place - box.clientWidth / 2;
 }
 
 // A button that stands for an item.
