@@ -239,6 +239,11 @@ fn try_command<'a>(alloc: Global) -> Result<Command<'a>, NoMemory>
             "page",
             "Where a page for a browser goes, of each step",
         ))?
+        .arg(flag(
+            alloc,
+            "strict",
+            "Also prints the loads and the stores past a label's data",
+        ))?
         .arg(data_option(alloc))?;
     Ok(command)
 }
