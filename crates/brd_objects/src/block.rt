@@ -1,0 +1,33 @@
+//! The blocks of a fixed memory pool.
+
+use brd_base::Same;
+use brd_config::PoolAttributes;
+
+/// A block of a pool.
+#[derive(Clone, Copy, PartialEq, Eq)]
+pub struct Block {
+    /// Where it begins.
+    pub address: u32,
+    /// Whether a task has it.
+    pub out: bool,
+}
+
+impl Same for Block {
+    fn same(&self, other: &Self) -> bool {
+        *self == *other
+    }
+}
+
+/// A fixed memory pool, laid out on a board.
+#[derive(Clone, Copy)]
+pub struct PoolSetup {
+    /// 1 to 255.
+    pub id: u16,
+    pub attributes: PoolAttributes,
+    /// How many blocks it has.
+    pub count: u16,
+    /// How many bytes a block has at least.
+    pub size: u32,
+    /// Where the first block begins.
+    pub start: u32,
+}
