@@ -1,7 +1,7 @@
 -- Fixed memory pools (uITRON 4.0 specification, "Fixed-sized Memory Pools"): where the blocks of one lie, which of them
 -- are out, and the tasks that wait for one. What stands in a block isn't said here.
-use Rattle.std.specs.Prelude.{ℕ, zero, suc, ◌+◌, ◌*◌, ◌/◌, ◌%◌, ◌^◌, ◌==◌, Bool, false, true, not, ◌&&◌, if◌then◌else◌}
-use Rattle.std.specs.Prelude.{List, [], ◌∷◌, map, filter, find, length, Option, None, Some}
+use Rattle.std.specs.Prelude.{ℕ, zero, suc, ◌+◌, ◌-◌, ◌%◌, ◌^◌, ◌==◌, Bool, false, true, not, ◌&&◌, if◌then◌else◌, List}
+use Rattle.std.specs.Prelude.{[], ◌∷◌, map, find, Option, None, Some}
 use Rattle.std.specs.List.{list_any}
 use Rattle.std.specs.Option.{option_map}
 use Rattle.brd_queue.specs.declared.entry.QueueOrder.{QueueOrder}
@@ -18,21 +18,21 @@ pub record PoolState : Type 0 where
   pub waiters : List Plain
 
 -- how many bytes lie between the starts of two blocks: those of a block, rounded up to a multiple of 4
-abbrev pub distance : ℕ → ℕ
-distance size = (size + 3) / 4 * 4
+abbrev pub distance_of : ℕ → ℕ
+distance_of size = size + 3 - (size + 3) % 4
 
 -- so many blocks, one after the other from an address on, none of them out
 abbrev pub laid : ℕ → ℕ → ℕ → List Block
-laid zero step address = []
-laid (suc count) step address =
-    record { address = address; out = false } ∷ laid count step ((address + step) % 2 ^ 32)
+laid zero distance address = []
+laid (suc count) distance address =
+    record { address = address; out = false } ∷ laid count distance ((address + distance) % 2 ^ 32)
 
 -- as it is laid out: all blocks are there, and nobody waits
 abbrev pub pool_of : PoolSetup → PoolState
 pool_of setup =
     record {
       order = order_of setup.attributes.0;
-      blocks = laid setup.count (distance setup.size % 2 ^ 32) setup.start;
+      blocks = laid setup.count setup.distance setup.start;
       waiters = [];
     }
 
@@ -44,8 +44,9 @@ abbrev pub free_block : List Block → Option ℕ
 free_block blocks = option_map (λ b. b.address) (find (λ b. not b.out) blocks)
 
 -- how many blocks aren't out
-abbrev pub free_count : PoolState → ℕ
-free_count p = length (filter (λ b. not b.out) p.blocks)
+abbrev pub free_among : List Block → ℕ
+free_among [] = 0
+free_among (b ∷ bs) = if b.out then free_among bs else 1 + free_among bs
 
 -- a block of the pool begins at this address, and it is out
 abbrev pub is_out : ℕ → PoolState → Bool

@@ -1,5 +1,8 @@
 //! The blocks of a fixed memory pool.
 
+ghost use Rattle.std.specs.Prelude.{◌≡◌, ◌≤◌, ◌^◌};
+ghost use Rattle.brd_objects.specs.Pools.{distance_of};
+
 use brd_base::Same;
 use brd_config::PoolAttributes;
 
@@ -26,8 +29,17 @@ pub struct PoolSetup {
     pub attributes: PoolAttributes,
     /// How many blocks it has.
     pub count: u16,
-    /// How many bytes a block has at least.
-    pub size: u32,
+    /// How many bytes lie between the starts of two blocks.
+    pub distance: u32,
     /// Where the first block begins.
     pub start: u32,
+}
+
+/// How many bytes lie between the starts of two blocks of this size, which is at most that of the largest RAM.
+pub fn distance_of(size: u32) -> u32
+    requires { size ≤ 2 ^ 24 }
+    ensures { result ≡ distance_of size }
+{
+    let high = size + 3;
+    high - high % 4
 }

@@ -25,7 +25,7 @@ mod sent;
 mod waiters;
 mod want;
 
-pub use block::{Block, PoolSetup};
+pub use block::{Block, PoolSetup, distance_of};
 pub use data_queue::DataQueue;
 pub use flag::Flag;
 pub use flags::{Flags, SavedFlags};

@@ -1,14 +1,13 @@
 //! A fixed memory pool.
 
-ghost use Rattle.std.specs.Prelude.{◌≡◌, ◌<◌, ◌%◌, ◌^◌, IfOk, IfSome, map};
+ghost use Rattle.std.specs.Prelude.{◌≡◌, ◌<◌, IfOk, IfSome, map};
 ghost use Rattle.brd_objects.specs.QueueOrder.{order_of};
 ghost use Rattle.brd_objects.specs.Waiters.{first_in};
 ghost use Rattle.brd_objects.specs.Pools.{
-  distance,
   laid,
   pool_of,
   free_block,
-  free_count,
+  free_among,
   is_out,
   marked,
   block_for,
@@ -92,10 +91,9 @@ impl Object for Pool {
 
     /// All blocks are there, too.
     fn new(alloc: Global, setup: &PoolSetup) -> Result<Pool, NoMemory> {
-        let step = distance(setup.size);
         Ok(Pool {
             order: order_of(setup.attributes),
-            blocks: laid(alloc, setup.count, step, setup.start)?,
+            blocks: laid(alloc, setup.count, setup.distance, setup.start)?,
             waiters: Queue::new(alloc)?,
         })
     }
@@ -120,9 +118,9 @@ impl Object for Pool {
 impl Pool {
     /// How many blocks are there.
     pub fn free(&self) -> usize
-        ensures { result ≡ free_count self.now }
+        ensures { result ≡ free_among self.now.blocks }
     {
-        self.blocks.iter().filter(|block| !block.out).count()
+        free_among(self.blocks.as_slice())
     }
 
     /// The task that waits first.
@@ -195,16 +193,9 @@ fn order_of(attributes: PoolAttributes) -> QueueOrder
     QueueOrder::Arrival
 }
 
-/// How many bytes lie between the starts of two blocks of this size.
-fn distance(size: u32) -> u32
-    ensures { result ≡ distance size % 2 ^ 32 }
-{
-    size.div_ceil(4).wrapping_mul(4)
-}
-
 /// So many blocks, one after the other from an address on, none of them out.
-fn laid(alloc: Global, count: u16, step: u32, start: u32) -> Result<Vec<Block>, NoMemory>
-    ensures { IfOk result (λ blocks. blocks.items ≡ laid count step start) }
+fn laid(alloc: Global, count: u16, distance: u32, start: u32) -> Result<Vec<Block>, NoMemory>
+    ensures { IfOk result (λ blocks. blocks.items ≡ laid count distance start) }
 {
     let mut blocks = Vec::with_capacity(alloc, count as usize)?;
     let mut address = start;
@@ -213,7 +204,7 @@ fn laid(alloc: Global, count: u16, step: u32, start: u32) -> Result<Vec<Block>, 
             address,
             out: false,
         })?;
-        address = address.wrapping_add(step);
+        address = address.wrapping_add(distance);
     }
     Ok(blocks)
 }
@@ -228,6 +219,19 @@ fn free_block(blocks: &[Block]) -> Option<u32>
         }
     }
     None
+}
+
+/// How many blocks aren't out.
+fn free_among(blocks: &[Block]) -> usize
+    ensures { result ≡ free_among blocks.now }
+{
+    let mut free = 0;
+    for block in blocks {
+        if !block.out {
+            free += 1;
+        }
+    }
+    free
 }
 
 /// Marks the block at an address: it is out, or it is back.

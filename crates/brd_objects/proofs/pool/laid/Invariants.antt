@@ -4,4 +4,4 @@ use Rattle.brd_objects.specs.Pools.{laid}
 use Rattle.brd_objects.proofs.pool.laid.Given as goal
 
 abbrev pub invariant-loop : goal.invariant-loop
-invariant-loop l = laid l.count l.step l.start ≡ l.blocks.items ++ laid (l.count - l.counter) l.step l.address
+invariant-loop l = laid l.count l.distance l.start ≡ l.blocks.items ++ laid (l.count - l.counter) l.distance l.address
