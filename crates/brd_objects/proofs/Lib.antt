@@ -3,3 +3,4 @@ pub mod ColumnLemmas
 pub mod BitLemmas
 pub mod LawLemmas
 pub mod ChangeLemmas
+pub mod PoolLemmas

@@ -1,10 +1,10 @@
 -- Mailboxes (uITRON 4.0 specification, "Mailboxes"): the addresses of messages, in the order in which they are received,
 -- and the tasks that wait for one. What stands in a message isn't said here.
-use Rattle.std.specs.Prelude.{ℕ, ◌<◌, nat_lt, Bool, if◌then◌else◌, List, [], ◌∷◌, ◌++◌, length, Option, None, Some}
+use Rattle.std.specs.Prelude.{ℕ, nat_lt, Bool, not, ◌&&◌, if◌then◌else◌, List, [], ◌∷◌, ◌++◌, length, Option, None, Some}
 use Rattle.brd_config.specs.declared.objects.MailboxConfig.{MailboxConfig}
 use Rattle.brd_queue.specs.declared.entry.QueueOrder.{QueueOrder}
 use Rattle.brd_queue.specs.declared.entry.QueueOrder.TheVariants.{Arrival, Priority}
-use Rattle.brd_queue.specs.Queue.{Plain, without, placed, reordered}
+use Rattle.brd_queue.specs.Queue.{Plain, without, placed, reordered, is_empty}
 use Rattle.brd_objects.specs.QueueOrder.{has_attribute, order_of}
 use Rattle.brd_objects.specs.Table.{Table, made_below}
 use Rattle.brd_objects.specs.declared.sent.Sent.{Sent}
@@ -45,6 +45,10 @@ most_messages = 256
 
 abbrev pub has_room : MailboxState → Bool
 has_room m = nat_lt (length m.messages) most_messages
+
+-- one more message is refused: nobody waits for it, and there is no room
+abbrev pub has_no_place : MailboxState → Bool
+has_no_place m = is_empty m.waiters && not (has_room m)
 
 -- a message stands before the first of lower priority, which is a higher number: after its equals
 abbrev pub behind_equals : Message → List Message → List Message

@@ -7,6 +7,7 @@ ghost use Rattle.brd_objects.specs.DataQueues.{IsToTask};
 ghost use Rattle.brd_objects.specs.Mailboxes.{
   message_order_of,
   mailbox_of,
+  has_no_place,
   behind_equals,
   with_message,
   message_sent,
@@ -169,6 +170,13 @@ impl Mailbox {
             return None;
         }
         Some(self.messages[0].address)
+    }
+
+    /// Whether one more message is too many: nobody waits for it, and there is no room.
+    pub fn is_full(&self) -> bool
+        ensures { result ≡ has_no_place self.now }
+    {
+        self.waiters.is_empty() && self.messages.len() >= MOST_MESSAGES
     }
 
     /// A message is sent: to the first waiter, which no longer waits, else it is kept, where there is room.

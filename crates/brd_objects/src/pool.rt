@@ -1,6 +1,6 @@
 //! A fixed memory pool.
 
-ghost use Rattle.std.specs.Prelude.{◌≡◌, ◌<◌, IfOk, IfSome, map};
+ghost use Rattle.std.specs.Prelude.{◌≡◌, ◌<◌, ◌≤◌, IfOk, IfSome, length, map};
 ghost use Rattle.brd_objects.specs.QueueOrder.{order_of};
 ghost use Rattle.brd_objects.specs.Waiters.{first_in};
 ghost use Rattle.brd_objects.specs.Pools.{
@@ -41,11 +41,14 @@ pub struct Pool {
 }
 
 impl Model for Pool {
+    ghost use Rattle.std.specs.Prelude.{◌≤◌, length};
     ghost use Rattle.brd_objects.specs.Pools.{PoolState};
 
     ghost Value = { PoolState };
 
     ghost view = { λ p. record { order = p.order; blocks = p.blocks.items; waiters = p.waiters } };
+
+    ghost invariant = { λ p. length p.blocks.items ≤ 65535 };
 }
 
 impl Clone for Pool {
@@ -117,10 +120,10 @@ impl Object for Pool {
 
 impl Pool {
     /// How many blocks are there.
-    pub fn free(&self) -> usize
+    pub fn free(&self) -> u16
         ensures { result ≡ free_among self.now.blocks }
     {
-        free_among(self.blocks.as_slice())
+        free_among(self.blocks.as_slice()).min(65_535) as u16
     }
 
     /// The task that waits first.
@@ -194,8 +197,10 @@ fn order_of(attributes: PoolAttributes) -> QueueOrder
 }
 
 /// So many blocks, one after the other from an address on, none of them out.
+#[tactic(auto, using(crate::proofs::PoolLemmas::laid_long, crate::proofs::PoolLemmas::laid_more))]
 fn laid(alloc: Global, count: u16, distance: u32, start: u32) -> Result<Vec<Block>, NoMemory>
-    ensures { IfOk result (λ blocks. blocks.items ≡ laid count distance start) }
+    ensures is { IfOk result (λ blocks. blocks.items ≡ laid count distance start) }
+    ensures long { IfOk result (λ blocks. length blocks.items ≤ 65535) }
 {
     let mut blocks = Vec::with_capacity(alloc, count as usize)?;
     let mut address = start;
@@ -223,7 +228,8 @@ fn free_block(blocks: &[Block]) -> Option<u32>
 
 /// How many blocks aren't out.
 fn free_among(blocks: &[Block]) -> usize
-    ensures { result ≡ free_among blocks.now }
+    ensures is { result ≡ free_among blocks.now }
+    ensures few { result ≤ length blocks.now }
 {
     let mut free = 0;
     for block in blocks {

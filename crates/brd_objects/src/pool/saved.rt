@@ -17,11 +17,14 @@ pub struct SavedPool {
 }
 
 impl Model for SavedPool {
+    ghost use Rattle.std.specs.Prelude.{◌≤◌, length};
     ghost use Rattle.brd_objects.specs.Pools.{PoolState};
 
     ghost Value = { PoolState };
 
     ghost view = { λ p. record { order = p.order; blocks = p.blocks.items; waiters = p.waiters } };
+
+    ghost invariant = { λ p. length p.blocks.items ≤ 65535 };
 }
 
 impl Pool {
