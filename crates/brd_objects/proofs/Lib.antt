@@ -4,3 +4,4 @@ pub mod BitLemmas
 pub mod LawLemmas
 pub mod ChangeLemmas
 pub mod PoolLemmas
+pub mod MessageLemmas

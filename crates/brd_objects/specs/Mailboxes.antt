@@ -1,6 +1,8 @@
 -- Mailboxes (uITRON 4.0 specification, "Mailboxes"): the addresses of messages, in the order in which they are received,
 -- and the tasks that wait for one. What stands in a message isn't said here.
-use Rattle.std.specs.Prelude.{ℕ, nat_lt, Bool, not, ◌&&◌, if◌then◌else◌, List, [], ◌∷◌, ◌++◌, length, Option, None, Some}
+use Rattle.std.specs.Prelude.{◌≡◌, ◌<◌, ◌≤◌, ℕ, nat_lt, Bool, not, ◌&&◌, if◌then◌else◌, List, [], ◌∷◌, ◌++◌, length}
+use Rattle.std.specs.Prelude.{Option, None, Some}
+use Rattle.std.specs.List.{AllByRecursion}
 use Rattle.brd_config.specs.declared.objects.MailboxConfig.{MailboxConfig}
 use Rattle.brd_queue.specs.declared.entry.QueueOrder.{QueueOrder}
 use Rattle.brd_queue.specs.declared.entry.QueueOrder.TheVariants.{Arrival, Priority}
@@ -108,6 +110,24 @@ mailbox_left id m = record m { waiters = without id m.waiters }
 -- a task that waits is given a priority: by arrival it keeps its place, by priority it comes after its equals
 abbrev pub mailbox_reordered : ℕ → ℕ → MailboxState → MailboxState
 mailbox_reordered id priority m = record m { waiters = reordered m.order id priority m.waiters }
+
+-- The order of messages that are received by priority: higher priority, which is a lower number, before lower, and of
+-- equal priority whichever was sent earlier.
+
+-- no message stands before one of higher priority
+abbrev pub AreByPriority : List Message → Type 0
+AreByPriority [] = Unit {0}
+AreByPriority (x ∷ xs) = AllByRecursion (λ other. x.priority ≤ other.priority) xs × AreByPriority xs
+
+-- A message came: the others stand as they stood, all that have its priority or a higher one before it, the rest after
+-- it.
+pub record Comes (message : Message) (old new : List Message) : Type 0 where
+  pub before : List Message
+  pub behind : List Message
+  pub was : old ≡ before ++ behind
+  pub is : new ≡ before ++ message ∷ behind
+  pub not_below : AllByRecursion (λ other. other.priority ≤ message.priority) before
+  pub below : AllByRecursion (λ other. message.priority < other.priority) behind
 
 -- Of a mailbox that may not be there.
 
