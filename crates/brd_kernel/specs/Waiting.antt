@@ -26,7 +26,7 @@ use Rattle.brd_objects.specs.Waiters.{satisfies, WantBits}
 use Rattle.brd_objects.specs.DataQueues.{DataQueueState, has_room}
 use Rattle.brd_objects.specs.Mutexes.{protocol_order}
 use Rattle.brd_objects.specs.Pools.{PoolState, block_for}
-use Rattle.brd_objects.specs.Mailboxes.{MailboxState}
+use Rattle.brd_objects.specs.Mailboxes.{MailboxState, next_message}
 use Rattle.brd_kernel.specs.Kernel.{KernelState}
 use Rattle.brd_kernel.specs.Waits.{reason_of}
 use Rattle.brd_kernel.specs.Services.{is_asleep}
@@ -125,13 +125,13 @@ pub record MutexIsKept (m : Mutex) : Type 0 where
 
 pub record PoolIsKept (p : PoolState) : Type 0 where
   pub ordered : AreInOrder p.order p.waiters
-  -- while a task waits, all blocks are out
-  pub lacking : is_empty p.waiters ≡ false → block_for p ≡ None
+  -- while a block is there, no task waits
+  pub lacking : is_some (block_for p) ≡ true → p.waiters ≡ []
 
 pub record MailboxIsKept (m : MailboxState) : Type 0 where
   pub ordered : AreInOrder m.order m.waiters
-  -- while a task waits, no message is there
-  pub lacking : is_empty m.waiters ≡ false → m.messages ≡ []
+  -- while a message is there, no task waits
+  pub lacking : is_some (next_message m) ≡ true → m.waiters ≡ []
 
 -- Each task is so, and each object.
 pub record EachIsKept (k : KernelState) : Type 0 where
