@@ -173,7 +173,11 @@ impl<'a> Reading<'a> {
         let Some(keyword) = keyword_of(word) else {
             return Some(unknown_statement(self.standard, word));
         };
-        if !self.standard && matches!(keyword, Keyword::Mutex) {
+        let is_of_the_profile = matches!(
+            keyword,
+            Keyword::Mutex | Keyword::Pool | Keyword::Mailbox
+        );
+        if !self.standard && is_of_the_profile {
             return Some(no_statement(self.standard, word));
         }
         if !self.has_board && !matches!(keyword, Keyword::Board) {

@@ -67,6 +67,18 @@ pub(crate) fn told_of(keyword: Keyword) -> Told {
             attributes: b"TA_TFIFO, TA_TPRI, TA_INHERIT and TA_CEILING",
             again: b"mutex ? is there already, on line &",
         },
+        Keyword::Pool => Told {
+            marks: b"(n,{a,n,n,v});",
+            form: b"CRE_MPF(id, {attributes, blocks, block size, area});",
+            attributes: b"TA_TFIFO and TA_TPRI",
+            again: b"fixed memory pool ? is there already, on line &",
+        },
+        Keyword::Mailbox => Told {
+            marks: b"(n,{a,n,z});",
+            form: b"CRE_MBX(id, {attributes, priorities, NULL});",
+            attributes: b"TA_TFIFO, TA_TPRI, TA_MFIFO and TA_MPRI",
+            again: b"mailbox ? is there already, on line &",
+        },
         Keyword::Handler => Told {
             marks: b"(n,{a,v});",
             form: b"DEF_INH(line, {attributes, handler});",
