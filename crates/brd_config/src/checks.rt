@@ -338,7 +338,12 @@ pub(crate) fn mailbox(
         return Err(ConfigFault::Duplicate { line });
     }
     let attributes = only_bits(statement.attributes, 3, ConfigFault::BadAttribute { line })?;
-    let priorities = within(statement.priorities, 1, 16, ConfigFault::BadPriority { line })?;
+    let priorities = within(
+        statement.priorities,
+        1,
+        16,
+        ConfigFault::BadPriority { line },
+    )?;
     Ok(MailboxConfig {
         id: id as u16,
         attributes: MailboxAttributes::from_bits_retain(attributes),

@@ -186,12 +186,7 @@ pub fn show_reason(alloc: Global, out: &mut Vec<u8>, reason: WaitReason) -> Resu
             show_number(alloc, out, "waits for a block of pool", object as u16)?
         }
         WaitReason::On(WaitKind::Message, object) => {
-            show_number(
-                alloc,
-                out,
-                "waits to receive from mailbox",
-                object as u16,
-            )?
+            show_number(alloc, out, "waits to receive from mailbox", object as u16)?
         }
         WaitReason::On(WaitKind::Room, object) => {
             show_number(alloc, out, "waits to send to data queue", object as u16)?

@@ -72,7 +72,6 @@ entered-kept k caller id (No-datum q there none) was =
 entered-kept k caller id (No-mutex m there held) was =
     let p : ℕ = callers_priority k caller in
     mutex-changed (mutex_awaited caller p) k id (λ x at. mutex-awaited caller p x (ap has_owner_in (sym at ∙ there) ∙ held)) was
-
 entered-kept k caller id (No-block p there none) was =
     let own : ℕ = callers_priority k caller in
     pool-changed (pool_awaited caller own) k id (λ x at. pool-awaited caller own x (ap block_for_in (sym at ∙ there) ∙ none)) was

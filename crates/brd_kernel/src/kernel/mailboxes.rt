@@ -99,8 +99,5 @@ fn message_of(address: u32, priority: u32) -> Message
 fn mailbox_words(mailbox: &Mailbox) -> [u32; 2]
     ensures { result ≡ mailbox_words mailbox.now }
 {
-    [
-        id_or_none(mailbox.first()),
-        mailbox.next().unwrap_or(0),
-    ]
+    [id_or_none(mailbox.first()), mailbox.next().unwrap_or(0)]
 }
