@@ -27,8 +27,6 @@ use Rattle.brd_config.specs.declared.objects.MutexConfig.{MutexConfig}
 use Rattle.brd_config.specs.declared.objects.PoolConfig.{PoolConfig}
 use Rattle.brd_config.specs.declared.objects.MailboxConfig.{MailboxConfig}
 use Rattle.brd_config.specs.declared.objects.HandlerConfig.{HandlerConfig}
-use Rattle.brd_config.specs.declared.statement.AttributeNames.{AttributeNames}
-use Rattle.brd_config.specs.declared.statement.AttributeNames.TheVariants as named
 use Rattle.brd_config.specs.declared.statement.Statement.{Statement}
 use Rattle.brd_config.specs.declared.statement.Statement.TheVariants.{Board, Class, ClassEnd, Task, Semaphore, Flag, Queue, SpinLock, Mutex, Pool, Mailbox, Handler}
 use Rattle.brd_config.specs.declared.statement.TaskStatement.{TaskStatement}
