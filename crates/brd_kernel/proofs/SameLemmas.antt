@@ -122,7 +122,7 @@ same-satisfied k id (Some f) =
     same-all_released new (all_released f) f.pattern in
     record { processors = rest.processors; spin_locks = rest.spin_locks; standard = rest.standard }
 
-same-second : (k : KernelState) (second : ℕ) (id : Option ℕ) → Same (released_with_second k second id) k
+pub same-second : (k : KernelState) (second : ℕ) (id : Option ℕ) → Same (released_with_second k second id) k
 same-second k second None = record { processors = refl; spin_locks = refl; standard = refl }
 same-second k second (Some id) = record { processors = refl; spin_locks = refl; standard = refl }
 
