@@ -386,3 +386,32 @@ marked_back bytes c e =
 pub plain_text : (bytes : List ℕ) → has_profile (tokens_of bytes) ≡ false → config_of bytes ≡ plain_config_of bytes
 unfolding config_of opened
 plain_text bytes none = rw none refl
+
+-- what a configuration has in the profile alone
+abbrev HasNone : Configuration → Type 0
+HasNone c = (c.mutexes ≡ []) × (c.pools ≡ []) × (c.mailboxes ≡ [])
+
+none_said : (processors : ℕ) (class : Option ℕ) (ss : List Statement) → AreNested false processors class ss → (mutexes_of ss ≡ []) × (pools_of ss ≡ []) × (mailboxes_of ss ≡ [])
+none_said processors class [] nested = (refl, refl, refl)
+none_said processors class (Board p ram ∷ ss) nested = absurd nested
+none_said processors class (Class n ∷ ss) nested = none_said processors (Some n) ss nested.2
+none_said processors class (ClassEnd ∷ ss) nested = none_said processors None ss nested.1
+none_said processors class (Task x ∷ ss) nested = none_said processors class ss nested
+none_said processors class (Semaphore x ∷ ss) nested = none_said processors class ss nested
+none_said processors class (Flag x ∷ ss) nested = none_said processors class ss nested
+none_said processors class (Queue x ∷ ss) nested = none_said processors class ss nested
+none_said processors class (SpinLock x ∷ ss) nested = none_said processors class ss nested.1
+none_said processors class (Mutex x ∷ ss) nested = let wrong : ⊥ = cc in absurd wrong
+none_said processors class (Pool x ∷ ss) nested = let wrong : ⊥ = cc in absurd wrong
+none_said processors class (Mailbox x ∷ ss) nested = let wrong : ⊥ = cc in absurd wrong
+none_said processors class (Handler x ∷ ss) nested = none_said processors class ss nested.1
+
+none_of : (standard : Bool) (processors ram : ℕ) (ss : List Statement) → AreNested standard processors None ss → standard ≡ false → HasNone (said standard processors ram ss)
+none_of true processors ram ss nested is = let wrong : ⊥ = cc in absurd wrong
+none_of false processors ram ss nested is = none_said processors None ss nested
+
+pub none_without : (bytes : List ℕ) (c : Configuration) → config_of bytes ≡ Ok c → c.standard ≡ false → (c.mutexes ≡ []) × (c.pools ≡ []) × (c.mailboxes ≡ [])
+none_without bytes c e is =
+    let s = says_back bytes c e in
+    let same : c ≡ said s.0 s.1 s.2 s.3 = s.6 in
+    subst HasNone (sym same) (none_of s.0 s.1 s.2 s.3 s.5.nested (sym (ap (λ (q : Configuration). q.standard) same) ∙ is))
