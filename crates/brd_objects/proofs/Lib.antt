@@ -4,4 +4,5 @@ pub mod BitLemmas
 pub mod LawLemmas
 pub mod ChangeLemmas
 pub mod PoolLemmas
+pub mod BlockLemmas
 pub mod MessageLemmas

@@ -1,5 +1,5 @@
--- Mailboxes (uITRON 4.0 specification, "Mailboxes"): the addresses of messages, in the order in which they are received,
--- and the tasks that wait for one. What stands in a message isn't said here.
+-- Mailboxes (uITRON 4.0 specification, "Mailboxes"): the addresses of messages, in the order in which they are
+-- received, and the tasks that wait for one. What stands in a message isn't said here.
 use Rattle.std.specs.Prelude.{◌≡◌, ◌<◌, ◌≤◌, ℕ, nat_lt, Bool, not, ◌&&◌, if◌then◌else◌, List, [], ◌∷◌, ◌++◌, length}
 use Rattle.std.specs.Prelude.{Option, None, Some}
 use Rattle.std.specs.List.{AllByRecursion}

@@ -68,8 +68,8 @@ without_block p (Some address) = record p { blocks = map (marked true address) p
 abbrev pub handed_out : PoolState → PoolState
 handed_out p = without_block p (block_for p)
 
--- A block comes back: the first waiter leaves with it, else it is there again. (What is no block of the pool that is out
--- changes nothing.)
+-- A block comes back: the first waiter leaves with it, else it is there again. (What is no block of the pool that is
+-- out changes nothing.)
 
 abbrev pub back_to : ℕ → PoolState → List Plain → PoolState
 back_to address p [] = record p { blocks = map (marked false address) p.blocks }

@@ -155,8 +155,8 @@ impl Pool {
         Some(address)
     }
 
-    /// A block comes back: the first waiter leaves with it, and is answered; else it is there again. What is no block of
-    /// the pool that is out changes nothing.
+    /// A block comes back: the first waiter leaves with it, and is answered; else it is there again. What is no block
+    /// of the pool that is out changes nothing.
     pub fn give(&mut self, address: u32) -> Option<u16>
         ensures is { self.new ≡ given_back address self.old }
         ensures who { result ≡ next_holder address self.old }

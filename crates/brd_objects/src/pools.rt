@@ -34,8 +34,8 @@ impl Objects<Pool> {
         None
     }
 
-    /// A block of a pool comes back: the first waiter leaves with it, and is answered; else it is there again. What is no
-    /// block of the pool that is out changes nothing.
+    /// A block of a pool comes back: the first waiter leaves with it, and is answered; else it is there again. What is
+    /// no block of the pool that is out changes nothing.
     pub fn give(&mut self, id: u16, address: u32) -> Option<u16>
         ensures is { self.new ≡ object_changed (given_back address) self.old id }
         ensures who { result ≡ next_holder_in address (object_at self.old id) }
