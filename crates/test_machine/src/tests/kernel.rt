@@ -43,6 +43,8 @@ fn of_four(
         queues,
         &locks,
         &mutexes,
+        &[],
+        &[],
     )?;
     for id in started {
         kernel.start(*id);
@@ -466,7 +468,20 @@ fn with_lines(alloc: Global, in_turn: bool) -> Result<Kernel, NoMemory> {
             lines[n].handler.cpu = 1 + n as u8 % 8;
         }
     }
-    Kernel::new(alloc, false, 8, &[], &lines, &[], &[], &[], &[], &[])
+    Kernel::new(
+        alloc,
+        false,
+        8,
+        &[],
+        &lines,
+        &[],
+        &[],
+        &[],
+        &[],
+        &[],
+        &[],
+        &[],
+    )
 }
 
 /// Whether a processor accepts the interrupt of a line, and no other until its handler has ended.
