@@ -142,3 +142,12 @@ all-out (b ∷ bs) none = all-out-by b.out b bs refl (all-out bs) none
 
 pub all-are-out : (p : PoolState) → block_for p ≡ None → All (λ b. b.out ≡ true) p.blocks
 all-are-out p none = all-out p.blocks none
+
+none-free : (bs : List Block) → All (λ x. x.out ≡ true) bs → free_block bs ≡ None
+none-free [] h = refl
+none-free (b ∷ bs) h =
+    let out : b.out ≡ true = h 0 b (omega arith) in
+    rw out (none-free bs (rest-all (λ x. x.out ≡ true) b bs h))
+
+pub none-is-there : (p : PoolState) → All (λ b. b.out ≡ true) p.blocks → block_for p ≡ None
+none-is-there p all = none-free p.blocks all

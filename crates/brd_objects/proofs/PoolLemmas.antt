@@ -1,5 +1,5 @@
 -- The blocks of a pool as they are laid, and one after the other, as loops pass them.
-use Rattle.std.proofs.Common.{◌≡◌, ◌≢◌, ◌<◌, ℕ, zero, suc, ◌+◌, ◌-◌, ◌%◌, ◌^◌, List, [], ◌∷◌, length, map, refl, sym, ap, ◌∙◌, arith}
+use Rattle.std.proofs.Common.{◌≡◌, ◌≢◌, ◌<◌, ◌≤◌, ℕ, zero, suc, ◌+◌, ◌-◌, ◌%◌, ◌^◌, List, [], ◌∷◌, ◌++◌, length, map, refl, sym, ap, ◌∙◌, append_assoc, length-append, arith}
 use Rattle.std.specs.Prelude.{Bool, true, false, not, ◌&&◌, ◌||◌, ◌==◌, if◌then◌else◌, find, Option, None, Some}
 use Rattle.std.specs.List.{list_any}
 use Rattle.std.specs.Option.{option_map}
@@ -18,6 +18,18 @@ pub laid_more : (count i distance address : ℕ) → i < count → laid (count -
 laid_more count i distance address lt =
     let left : count - i ≡ suc (count - (i + 1)) = omega (arith, lt) in
     rw left refl
+
+-- one more block is laid
+pub laid-next : (whole done more : List Block) (count i distance address next : ℕ) → whole ≡ done ++ laid (count - i) distance address → i < count → more ≡ done ++ record { address = address; out = false } ∷ [] → next ≡ (address + distance) % 2 ^ 32
+    → whole ≡ more ++ laid (count - (i + 1)) distance next
+laid-next whole done more count i distance address next is lt pushed behind =
+    rw (pushed, behind, append_assoc) (is ∙ ap (λ (bs : List Block). done ++ bs) (laid_more count i distance address lt))
+
+-- there are no more blocks than are to be laid
+pub laid-few : (done : List Block) (count i distance start address : ℕ) → laid count distance start ≡ done ++ laid (count - i) distance address → count ≤ 65535 → length done ≤ 65535
+laid-few done count i distance start address is few =
+    let all : length (laid count distance start) ≡ length done + length (laid (count - i) distance address) = ap length is ∙ length-append done (laid (count - i) distance address) in
+    omega (arith, all, laid_long count distance start, few)
 
 -- Which blocks are out.
 

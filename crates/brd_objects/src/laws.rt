@@ -1,7 +1,7 @@
 //! What is true of flags, data queues, fixed memory pools and mailboxes.
 
-ghost use Rattle.std.specs.Prelude.{◌≡◌, ◌≢◌, ◌<◌, ◌≤◌, ◌+◌, ◌*◌, ◌^◌, ℕ, List, [], ◌∷◌, ◌++◌, Bool, true, false, not};
-ghost use Rattle.std.specs.Prelude.{None, Some, filter, map, length, All, AllPairs};
+ghost use Rattle.std.specs.Prelude.{◌≡◌, ◌≢◌, ◌↔◌, ◌<◌, ◌≤◌, ◌+◌, ◌*◌, ◌^◌, ℕ, Bool, true, false, not, None, Some};
+ghost use Rattle.std.specs.Prelude.{List, [], ◌∷◌, ◌++◌, filter, map, length, All, AllPairs};
 ghost use Rattle.brd_queue.specs.declared.entry.QueueEntry.{QueueEntry as QueueEntryOf};
 ghost use Rattle.brd_objects.specs.declared.want.Want.{Want as WantOf};
 ghost use Rattle.brd_objects.specs.declared.flag.Flag.{Flag as FlagOf};
@@ -66,7 +66,7 @@ pub fn blocks_lie_apart()
     ensures within { (setup : PoolSetupOf) → 0 < setup.distance →
         setup.start + setup.count * setup.distance ≤ 2 ^ 32 →
         All (λ b. (setup.start ≤ b.address)
-            × (b.address + setup.distance ≤ setup.start + setup.count * setup.distance)) (pool_of setup).blocks }
+        × (b.address + setup.distance ≤ setup.start + setup.count * setup.distance)) (pool_of setup).blocks }
     ensures apart { (setup : PoolSetupOf) → 0 < setup.distance →
         setup.start + setup.count * setup.distance ≤ 2 ^ 32 →
         AllPairs (λ b c. b.address + setup.distance ≤ c.address) (pool_of setup).blocks }
@@ -80,7 +80,7 @@ pub fn blocks_lie_apart()
 pub fn no_block_is_handed_out_twice()
     ensures there { (p : PoolState) (block : ℕ) → AllPairs (λ b c. b.address ≢ c.address) p.blocks →
         block_for p ≡ Some block → is_out block p ≡ false }
-    ensures none { (p : PoolState) → block_for p ≡ None → All (λ b. b.out ≡ true) p.blocks }
+    ensures none { (p : PoolState) → (block_for p ≡ None) ↔ All (λ b. b.out ≡ true) p.blocks }
 {}
 
 /// A block that is handed out is out from then on, and one that comes back where nobody waits is there again; where a

@@ -197,7 +197,6 @@ fn order_of(attributes: PoolAttributes) -> QueueOrder
 }
 
 /// So many blocks, one after the other from an address on, none of them out.
-#[tactic(auto, using(crate::proofs::PoolLemmas::laid_long, crate::proofs::PoolLemmas::laid_more))]
 fn laid(alloc: Global, count: u16, distance: u32, start: u32) -> Result<Vec<Block>, NoMemory>
     ensures is { IfOk result (λ blocks. blocks.items ≡ laid count distance start) }
     ensures long { IfOk result (λ blocks. length blocks.items ≤ 65535) }
