@@ -1,6 +1,6 @@
 -- Where the blocks of a pool lie, and that none is handed out twice.
-use Rattle.std.proofs.Common.{◌≡◌, ◌≢◌, ◌<◌, ◌≤◌, ℕ, zero, suc, ◌+◌, ◌*◌, ◌%◌, ◌^◌, List, [], ◌∷◌, length, map, refl, sym, ap, subst, ◌∙◌, arith}
-use Rattle.std.specs.Prelude.{Bool, true, false, not, ◌&&◌, ◌||◌, ◌==◌, if◌then◌else◌, find, Option, None, Some, All, AllPairs, slice_index_or}
+use Rattle.std.proofs.Common.{◌≡◌, ◌≢◌, ◌<◌, ◌≤◌, ℕ, zero, suc, ◌+◌, ◌*◌, ◌%◌, ◌^◌, List, [], ◌∷◌, map, refl, sym, subst, arith}
+use Rattle.std.specs.Prelude.{Bool, true, false, not, ◌&&◌, ◌==◌, if◌then◌else◌, find, Option, None, Some, All, AllPairs}
 use Rattle.std.specs.List.{list_any}
 use Rattle.std.specs.Option.{option_map}
 use Rattle.std.proofs.lemmas.Bool.Decides.{nat_tests}
@@ -8,7 +8,7 @@ use Rattle.std.proofs.lemmas.List.Elements.{All-nil, All-cons}
 use Rattle.std.proofs.lemmas.List.Kept.{AllPairs-cons}
 use Rattle.brd_queue.specs.Queue.{Plain}
 use Rattle.brd_objects.specs.declared.block.Block.{Block}
-use Rattle.brd_objects.specs.Pools.{PoolState, laid, marked, is_out, free_block, free_among, block_for, without_block, handed_out, back_to, given_back}
+use Rattle.brd_objects.specs.Pools.{PoolState, laid, marked, is_out, free_block, block_for, without_block, handed_out, back_to, given_back}
 
 -- ---- where they lie
 
