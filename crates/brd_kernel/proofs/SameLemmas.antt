@@ -28,8 +28,8 @@ use Rattle.brd_kernel.specs.Services.{unmarked_on, handler_ended, with_all_relea
 use Rattle.brd_kernel.proofs.WaitLemmas.{OnlyLists, unlisted-only, reordered-only}
 use Rattle.brd_kernel.proofs.WalkLemmas.{Lacks, No-one, lacked, awaiting, Fact, OfTask, Holding, Law}
 use Rattle.brd_objects.specs.Mutexes.{given, next_owner_in}
-use Rattle.brd_objects.specs.Pools.{PoolState, handed_out, given_back, next_holder}
-use Rattle.brd_objects.specs.Mailboxes.{MailboxState, message_sent, message_outcome, message_received}
+use Rattle.brd_objects.specs.Pools.{PoolState, given_back, next_holder}
+use Rattle.brd_objects.specs.Mailboxes.{MailboxState, message_sent, message_outcome}
 use Rattle.brd_kernel.proofs.PricedLemmas.{priced, priced_in}
 use Rattle.brd_kernel.proofs.SettledLemmas.{Settles, all-given, all-prioritized}
 

@@ -25,8 +25,8 @@ use Rattle.brd_kernel.proofs.WalkLemmas.{Anything, Law, Lacks, No-one, No-bits, 
 use Rattle.brd_kernel.proofs.nobody_waits.EachLemmas.{others-kept, processor-kept, tasks-kept, semaphore-changed, flag-changed, queue-changed, released-kept, broken-kept, wait-kept, no-sleep, released-if, set-stays, handed-kept, quits-kept, priced-kept, mutex-changed, given-kept, prioritized-kept}
 use Rattle.brd_objects.specs.declared.mutex.Mutex.{Mutex}
 use Rattle.brd_objects.specs.Mutexes.{owned, mutex_awaited}
-use Rattle.brd_objects.specs.Pools.{PoolState, block_for_in, handed_out, given_back, next_holder, pool_awaited}
-use Rattle.brd_objects.specs.Mailboxes.{MailboxState, message_sent, message_outcome, message_received, next_message_in, mailbox_awaited}
+use Rattle.brd_objects.specs.Pools.{block_for_in, handed_out, given_back, next_holder, pool_awaited}
+use Rattle.brd_objects.specs.Mailboxes.{message_sent, message_outcome, message_received, next_message_in, mailbox_awaited}
 use Rattle.brd_kernel.proofs.nobody_waits.ObjectLemmas.{pool-handed, pool-given, pool-awaited, mailbox-sent, mailbox-received, mailbox-awaited}
 use Rattle.brd_kernel.proofs.nobody_waits.EachLemmas.{pool-changed, mailbox-changed}
 
