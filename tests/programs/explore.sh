@@ -448,7 +448,7 @@ assembled peterson_right.s
 explores "$image" $examples/peterson.cfg --word inside=0..1 --events 60 --preemptions 9 --time 2
 verdict "explore: time is over" "$(is_over $?)"
 explores "$image" $examples/peterson.cfg --word inside=0..1 --events 50 --preemptions 2 --time 1000000
-verdict "explore: there is time enough" "$(is_none 836 "at most 50 events, 2 preemptions, 0 ticks and 0 raises" $?)"
+verdict "explore: there is time enough" "$(is_none 836 "at most 50 events, 2 preemptions, 0 ticks and 0 raises" $? 371)"
 assembled peterson.s
 explores "$image" $examples/peterson.cfg --word inside=0..1 --events 50 --preemptions 2 --time 1000000 --out "$work/found"
 verdict "explore: what is found in time" "$(is_found $?)"
