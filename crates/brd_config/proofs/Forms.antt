@@ -12,17 +12,21 @@ use Rattle.brd_config.specs.declared.fault.ConfigFault.{ConfigFault}
 use Rattle.brd_config.specs.declared.fault.ConfigFault.TheVariants.{NoMemory}
 use Rattle.brd_config.specs.declared.objects.Operand.{Operand}
 use Rattle.brd_config.specs.declared.objects.Stack.{Stack}
+use Rattle.brd_config.specs.declared.statement.AttributeNames.{AttributeNames}
+use Rattle.brd_config.specs.declared.statement.AttributeNames.TheVariants as named
 use Rattle.brd_config.specs.declared.statement.Statement.{Statement}
-use Rattle.brd_config.specs.declared.statement.Statement.TheVariants.{Board, Class, ClassEnd, Task, Semaphore, Flag, Queue, SpinLock, Mutex, Handler}
+use Rattle.brd_config.specs.declared.statement.Statement.TheVariants.{Board, Class, ClassEnd, Task, Semaphore, Flag, Queue, SpinLock, Mutex, Pool, Mailbox, Handler}
 use Rattle.brd_config.specs.declared.statement.TaskStatement.{TaskStatement}
 use Rattle.brd_config.specs.declared.statement.SemaphoreStatement.{SemaphoreStatement}
 use Rattle.brd_config.specs.declared.statement.FlagStatement.{FlagStatement}
 use Rattle.brd_config.specs.declared.statement.QueueStatement.{QueueStatement}
 use Rattle.brd_config.specs.declared.statement.SpinLockStatement.{SpinLockStatement}
 use Rattle.brd_config.specs.declared.statement.MutexStatement.{MutexStatement}
+use Rattle.brd_config.specs.declared.statement.PoolStatement.{PoolStatement}
+use Rattle.brd_config.specs.declared.statement.MailboxStatement.{MailboxStatement}
 use Rattle.brd_config.specs.declared.statement.HandlerStatement.{HandlerStatement}
-use Rattle.brd_config.specs.Statements.{keyword_of, board_at, class_at, task_tail_at, task_at, semaphore_at, flag_at, queue_at, spin_lock_at, mutex_at, handler_at, behind_keyword, statement_at}
-use Rattle.brd_config.specs.Reading.{attribute_of, number_at, mark_at, attribute_at, joint_at, attribute_step, attributes_at, operand_at, stack_at, area_at, class_number_at, protocol_at, listed_number_at, listed_operand_at, head_at, tail_at}
+use Rattle.brd_config.specs.Statements.{keyword_of, board_at, class_at, task_tail_at, task_at, semaphore_at, flag_at, queue_at, spin_lock_at, mutex_at, pool_at, mailbox_at, handler_at, behind_keyword, statement_at}
+use Rattle.brd_config.specs.Reading.{attribute_of, is_null, number_at, mark_at, attribute_at, joint_at, attribute_step, attributes_at, operand_at, stack_at, area_at, null_at, class_number_at, protocol_at, listed_number_at, listed_operand_at, head_at, tail_at}
 use Rattle.brd_config.specs.Grammar.{Piece, Joined, AreSpelled, form}
 use Rattle.brd_config.specs.Grammar.Piece.{Exactly, Sign, Numeral, Attributes, Value, StackValue, Area, ClassName, Protocol}
 use Rattle.brd_config.specs.Grammar.Joined.{last, bar}
@@ -87,6 +91,12 @@ protocol_step n ps t s =
     let one = one_piece (Run s.2.0) ps t s.0 s.1 s.2.1 s.3 s.4 in
     (rw (one.0, s.2.2) refl, one.1)
 
+pub null_step : (ps : List Piece) (t : Text) → Ahead (Exactly (codes "NULL") ∷ ps) t → (null_at t ≡ Ok (others t)) × Ahead ps (others t)
+unfolding null_at is_null
+null_step ps t s =
+    let one = one_piece (Run (codes "NULL")) ps t s.0 s.1 s.2 s.3 s.4 in
+    (rw one.0 refl, one.1)
+
 pub exactly_step : (run : List ℕ) (ps : List Piece) (t : Text) → Ahead (Exactly run ∷ ps) t → ((first t).token ≡ Run run) × Ahead ps (others t)
 exactly_step run ps t s = one_piece (Run run) ps t s.0 s.1 s.2 s.3 s.4
 
@@ -96,10 +106,10 @@ first_sign b ps t s = one_piece (Mark b) ps t s.0 s.1 s.2 s.3 s.4
 -- ---- attributes
 
 -- a run, a mark and what follows
-one_attribute : (end before bits b : ℕ) (run : List ℕ) (t : Text) (more : Bool) (rest : List Token) → attribute_of run ≡ Some bits → bare_tokens t ≡ Run run ∷ Mark b ∷ rest
-    → joint_at end (others t) ≡ Ok (more, others (others t)) → attribute_step end (before, t) ≡ Ok (flow_of more (bit_or before bits, others (others t)) (bit_or before bits, others (others t)))
+one_attribute : (names : AttributeNames) (end before bits b : ℕ) (run : List ℕ) (t : Text) (more : Bool) (rest : List Token) → attribute_of names run ≡ Some bits → bare_tokens t ≡ Run run ∷ Mark b ∷ rest
+    → joint_at end (others t) ≡ Ok (more, others (others t)) → attribute_step names end (before, t) ≡ Ok (flow_of more (bit_or before bits, others (others t)) (bit_or before bits, others (others t)))
 unfolding attribute_step attribute_at
-one_attribute end before bits b run t more rest h e joint =
+one_attribute names end before bits b run t more rest h e joint =
     let f = first_bare t (Run run) (Mark b ∷ rest) e in
     rw (f.0, h, joint) refl
 
@@ -113,29 +123,29 @@ unfolding joint_at
 joint_goes_on end t e = rw e refl
 
 -- with as many turns as there are tokens
-joined : (end before bits : ℕ) (tokens : List Token) → nat_eq end 124 ≡ false → Joined before bits tokens → (n : ℕ) (ps : List Piece) (t : Text) (rest : List Token) → length tokens ≤ n → AreSpelled ps rest → bare_tokens t ≡ tokens ++ Mark end ∷ rest
-    → (u : Text) × (repeated NoMemory (attribute_step end) n (before, t) ≡ Ok (bits, u)) × Ahead ps u
+joined : (names : AttributeNames) (end before bits : ℕ) (tokens : List Token) → nat_eq end 124 ≡ false → Joined names before bits tokens → (n : ℕ) (ps : List Piece) (t : Text) (rest : List Token) → length tokens ≤ n → AreSpelled ps rest → bare_tokens t ≡ tokens ++ Mark end ∷ rest
+    → (u : Text) × (repeated NoMemory (attribute_step names end) n (before, t) ≡ Ok (bits, u)) × Ahead ps u
 unfolding repeated
-joined end before _ _ other (last _ run bits h) zero ps t rest le later e = absurd (omega arith)
-joined end before _ _ other (last _ run bits h) (suc n) ps t rest le later e =
+joined names end before _ _ other (last _ _ run bits h) zero ps t rest le later e = absurd (omega arith)
+joined names end before _ _ other (last _ _ run bits h) (suc n) ps t rest le later e =
     let f = first_bare t (Run run) (Mark end ∷ rest) e in
     let g = first_bare (others t) (Mark end) rest f.1 in
-    let step = one_attribute end before bits end run t false rest h e (joint_ends end (others t) other g.0) in
+    let step = one_attribute names end before bits end run t false rest h e (joint_ends end (others t) other g.0) in
     (others (others t), rw step refl, subst (AreSpelled ps) (sym g.1) later)
-joined end before _ _ other (bar _ run bits all tokens h j) zero ps t rest le later e = absurd (omega arith)
-joined end before _ _ other (bar _ run bits all tokens h j) (suc n) ps t rest le later e =
+joined names end before _ _ other (bar _ _ run bits all tokens h j) zero ps t rest le later e = absurd (omega arith)
+joined names end before _ _ other (bar _ _ run bits all tokens h j) (suc n) ps t rest le later e =
     let f = first_bare t (Run run) (Mark 124 ∷ (tokens ++ Mark end ∷ rest)) e in
     let g = first_bare (others t) (Mark 124) (tokens ++ Mark end ∷ rest) f.1 in
-    let step = one_attribute end before bits 124 run t true (tokens ++ Mark end ∷ rest) h e (joint_goes_on end (others t) g.0) in
-    let again = joined end (bit_or before bits) all tokens other j n ps (others (others t)) rest (omega arith) later g.1 in
+    let step = one_attribute names end before bits 124 run t true (tokens ++ Mark end ∷ rest) h e (joint_goes_on end (others t) g.0) in
+    let again = joined names end (bit_or before bits) all tokens other j n ps (others (others t)) rest (omega arith) later g.1 in
     (again.0, rw step again.1, again.2)
 
-attributes_step : (end bits : ℕ) (ps : List Piece) (t : Text) → nat_eq end 124 ≡ false → Ahead (Attributes bits ∷ Sign end ∷ ps) t → (u : Text) × (attributes_at end t ≡ Ok (bits, u)) × Ahead ps u
+attributes_step : (names : AttributeNames) (end bits : ℕ) (ps : List Piece) (t : Text) → nat_eq end 124 ≡ false → Ahead (Attributes names bits ∷ Sign end ∷ ps) t → (u : Text) × (attributes_at names end t ≡ Ok (bits, u)) × Ahead ps u
 unfolding attributes_at
-attributes_step end bits ps t other s =
+attributes_step names end bits ps t other s =
     let e : bare_tokens t ≡ s.0 ++ Mark end ∷ s.3.1 = s.4 ∙ ap (λ (ws : List Token). s.0 ++ ws) (s.3.4 ∙ ap (λ (ws : List Token). ws ++ s.3.1) s.3.2) in
     let long : length s.0 ≤ suc (length t.tokens) = omega (arith, ap length e, length-append s.0 (Mark end ∷ s.3.1), length-map t.tokens (λ p. p.token)) in
-    joined end 0 bits s.0 other s.2 (suc (length t.tokens)) ps t s.3.1 long s.3.3 e
+    joined names end 0 bits s.0 other s.2 (suc (length t.tokens)) ps t s.3.1 long s.3.3 e
 
 -- ---- statements
 
@@ -157,13 +167,13 @@ listed_operand_step o ps t s =
     let b = sign_step 44 ps (others t) a.1 in
     (rw (a.0, b.0) refl, b.1)
 
-head_step : (end id attributes : ℕ) (ps : List Piece) (t : Text) → nat_eq end 124 ≡ false → Ahead (Sign 40 ∷ Numeral id ∷ Sign 44 ∷ Sign 123 ∷ Attributes attributes ∷ Sign end ∷ ps) t → (u : Text) × (head_at end t ≡ Ok (id, attributes, u)) × Ahead ps u
+head_step : (names : AttributeNames) (end id attributes : ℕ) (ps : List Piece) (t : Text) → nat_eq end 124 ≡ false → Ahead (Sign 40 ∷ Numeral id ∷ Sign 44 ∷ Sign 123 ∷ Attributes names attributes ∷ Sign end ∷ ps) t → (u : Text) × (head_at names end t ≡ Ok (id, attributes, u)) × Ahead ps u
 unfolding head_at
-head_step end id attributes ps t other s =
-    let a = sign_step 40 (Numeral id ∷ Sign 44 ∷ Sign 123 ∷ Attributes attributes ∷ Sign end ∷ ps) t s in
-    let b = listed_number_step id (Sign 123 ∷ Attributes attributes ∷ Sign end ∷ ps) (others t) a.1 in
-    let c = sign_step 123 (Attributes attributes ∷ Sign end ∷ ps) (others (others (others t))) b.1 in
-    let d = attributes_step end attributes ps (others (others (others (others t)))) other c.1 in
+head_step names end id attributes ps t other s =
+    let a = sign_step 40 (Numeral id ∷ Sign 44 ∷ Sign 123 ∷ Attributes names attributes ∷ Sign end ∷ ps) t s in
+    let b = listed_number_step id (Sign 123 ∷ Attributes names attributes ∷ Sign end ∷ ps) (others t) a.1 in
+    let c = sign_step 123 (Attributes names attributes ∷ Sign end ∷ ps) (others (others (others t))) b.1 in
+    let d = attributes_step names end attributes ps (others (others (others (others t)))) other c.1 in
     (d.0, rw (a.0, b.0, c.0, d.1) refl, d.2)
 
 tail_step : (ps : List Piece) (t : Text) → Ahead (Sign 125 ∷ Sign 41 ∷ Sign 59 ∷ ps) t → (tail_at t ≡ Ok (others (others (others t)))) × Ahead ps (others (others (others t)))
@@ -202,7 +212,7 @@ class_again n ps t s =
 
 -- ( id , { attributes , fields } ) ; and what follows
 abbrev pub object_pieces : ℕ → ℕ → List Piece → List Piece → List Piece
-object_pieces id attributes fields ps = Sign 40 ∷ Numeral id ∷ Sign 44 ∷ Sign 123 ∷ Attributes attributes ∷ Sign 44 ∷ (fields ++ Sign 125 ∷ Sign 41 ∷ Sign 59 ∷ ps)
+object_pieces id attributes fields ps = Sign 40 ∷ Numeral id ∷ Sign 44 ∷ Sign 123 ∷ Attributes named.Common attributes ∷ Sign 44 ∷ (fields ++ Sign 125 ∷ Sign 41 ∷ Sign 59 ∷ ps)
 
 task_tail_step : (priority size : ℕ) (stack : Stack) (ps : List Piece) (t : Text)
     → Ahead (Numeral priority ∷ Sign 44 ∷ Numeral size ∷ Sign 44 ∷ StackValue stack ∷ Sign 125 ∷ Sign 41 ∷ Sign 59 ∷ ps) t → (u : Text) × (task_tail_at t ≡ Ok (priority, size, stack, u)) × Ahead ps u
@@ -223,7 +233,7 @@ task_again : (x : TaskStatement) (ps : List Piece) (t : Text)
 unfolding task_at
 task_again x ps t s =
     let rest = Numeral x.priority ∷ Sign 44 ∷ Numeral x.stack_size ∷ Sign 44 ∷ StackValue x.stack ∷ Sign 125 ∷ Sign 41 ∷ Sign 59 ∷ ps in
-    let h = head_step 44 x.id x.attributes (Value x.exinf ∷ Sign 44 ∷ Value x.address ∷ Sign 44 ∷ rest) t refl s in
+    let h = head_step named.Common 44 x.id x.attributes (Value x.exinf ∷ Sign 44 ∷ Value x.address ∷ Sign 44 ∷ rest) t refl s in
     let t0 = h.0 in
     let a = listed_operand_step x.exinf (Value x.address ∷ Sign 44 ∷ rest) t0 h.2 in
     let t1 = others (others t0) in
@@ -236,7 +246,7 @@ semaphore_again : (x : SemaphoreStatement) (ps : List Piece) (t : Text) → Ahea
 unfolding semaphore_at
 semaphore_again x ps t s =
     let end = Sign 125 ∷ Sign 41 ∷ Sign 59 ∷ ps in
-    let h = head_step 44 x.id x.attributes (Numeral x.initial ∷ Sign 44 ∷ Numeral x.maximum ∷ end) t refl s in
+    let h = head_step named.Common 44 x.id x.attributes (Numeral x.initial ∷ Sign 44 ∷ Numeral x.maximum ∷ end) t refl s in
     let t0 = h.0 in
     let a = listed_number_step x.initial (Numeral x.maximum ∷ end) t0 h.2 in
     let t1 = others (others t0) in
@@ -249,7 +259,7 @@ flag_again : (x : FlagStatement) (ps : List Piece) (t : Text) → Ahead (object_
 unfolding flag_at
 flag_again x ps t s =
     let end = Sign 125 ∷ Sign 41 ∷ Sign 59 ∷ ps in
-    let h = head_step 44 x.id x.attributes (Numeral x.pattern ∷ end) t refl s in
+    let h = head_step named.Common 44 x.id x.attributes (Numeral x.pattern ∷ end) t refl s in
     let t0 = h.0 in
     let a = numeral_step x.pattern end t0 h.2 in
     let t1 = others t0 in
@@ -260,7 +270,7 @@ queue_again : (x : QueueStatement) (ps : List Piece) (t : Text) → Ahead (objec
 unfolding queue_at
 queue_again x ps t s =
     let end = Sign 125 ∷ Sign 41 ∷ Sign 59 ∷ ps in
-    let h = head_step 44 x.id x.attributes (Numeral x.capacity ∷ Sign 44 ∷ Area ∷ end) t refl s in
+    let h = head_step named.Common 44 x.id x.attributes (Numeral x.capacity ∷ Sign 44 ∷ Area ∷ end) t refl s in
     let t0 = h.0 in
     let a = listed_number_step x.capacity (Area ∷ end) t0 h.2 in
     let t1 = others (others t0) in
@@ -271,12 +281,12 @@ queue_again x ps t s =
 
 -- ( id , { attributes } ) ; and what follows
 abbrev pub bare_object_pieces : ℕ → ℕ → List Piece → List Piece
-bare_object_pieces id attributes ps = Sign 40 ∷ Numeral id ∷ Sign 44 ∷ Sign 123 ∷ Attributes attributes ∷ Sign 125 ∷ Sign 41 ∷ Sign 59 ∷ ps
+bare_object_pieces id attributes ps = Sign 40 ∷ Numeral id ∷ Sign 44 ∷ Sign 123 ∷ Attributes named.Common attributes ∷ Sign 125 ∷ Sign 41 ∷ Sign 59 ∷ ps
 
 spin_lock_again : (x : SpinLockStatement) (ps : List Piece) (t : Text) → Ahead (bare_object_pieces x.id x.attributes ps) t → Reads (spin_lock_at t) (SpinLock x) ps
 unfolding spin_lock_at
 spin_lock_again x ps t s =
-    let h = head_step 125 x.id x.attributes (Sign 41 ∷ Sign 59 ∷ ps) t refl s in
+    let h = head_step named.Common 125 x.id x.attributes (Sign 41 ∷ Sign 59 ∷ ps) t refl s in
     let t0 = h.0 in
     let a = sign_step 41 (Sign 59 ∷ ps) t0 h.2 in
     let b = sign_step 59 ps (others t0) a.1 in
@@ -305,18 +315,52 @@ mutex_again x ps t s =
     let l = tail_step ps t6 g.1 in
     (others (others (others t6)), rw (a.0, b.0, c.0, d.0, f.0, g.0, l.0) refl, l.1)
 
+pool_again : (x : PoolStatement) (ps : List Piece) (t : Text)
+    → Ahead (object_pieces x.id x.attributes (Numeral x.count ∷ Sign 44 ∷ Numeral x.size ∷ Sign 44 ∷ StackValue x.area ∷ []) ps) t → Reads (pool_at t) (Pool x) ps
+unfolding pool_at
+pool_again x ps t s =
+    let end = Sign 125 ∷ Sign 41 ∷ Sign 59 ∷ ps in
+    let h = head_step named.Common 44 x.id x.attributes (Numeral x.count ∷ Sign 44 ∷ Numeral x.size ∷ Sign 44 ∷ StackValue x.area ∷ end) t refl s in
+    let t0 = h.0 in
+    let a = listed_number_step x.count (Numeral x.size ∷ Sign 44 ∷ StackValue x.area ∷ end) t0 h.2 in
+    let t1 = others (others t0) in
+    let b = listed_number_step x.size (StackValue x.area ∷ end) t1 a.1 in
+    let t2 = others (others t1) in
+    let c = stack_step x.area end t2 b.1 in
+    let t3 = others t2 in
+    let l = tail_step ps t3 c.1 in
+    (others (others (others t3)), rw (h.1, a.0, b.0, c.0, l.0) refl, l.1)
+
+-- ( id , { attributes , priorities , NULL } ) ; and what follows
+abbrev pub mailbox_pieces : ℕ → ℕ → ℕ → List Piece → List Piece
+mailbox_pieces id attributes priorities ps = Sign 40 ∷ Numeral id ∷ Sign 44 ∷ Sign 123 ∷ Attributes named.Mailbox attributes ∷ Sign 44 ∷ Numeral priorities ∷ Sign 44 ∷ Exactly (codes "NULL") ∷ Sign 125 ∷ Sign 41 ∷ Sign 59 ∷ ps
+
+mailbox_again : (x : MailboxStatement) (ps : List Piece) (t : Text) → Ahead (mailbox_pieces x.id x.attributes x.priorities ps) t → Reads (mailbox_at t) (Mailbox x) ps
+unfolding mailbox_at
+mailbox_again x ps t s =
+    let end = Sign 125 ∷ Sign 41 ∷ Sign 59 ∷ ps in
+    let h = head_step named.Mailbox 44 x.id x.attributes (Numeral x.priorities ∷ Sign 44 ∷ Exactly (codes "NULL") ∷ end) t refl s in
+    let t0 = h.0 in
+    let a = listed_number_step x.priorities (Exactly (codes "NULL") ∷ end) t0 h.2 in
+    let t1 = others (others t0) in
+    let b = null_step end t1 a.1 in
+    let t2 = others t1 in
+    let l = tail_step ps t2 b.1 in
+    (others (others (others t2)), rw (h.1, a.0, b.0, l.0) refl, l.1)
+
 handler_again : (x : HandlerStatement) (ps : List Piece) (t : Text) → Ahead (object_pieces x.line x.attributes (Value x.address ∷ []) ps) t → Reads (handler_at t) (Handler x) ps
 unfolding handler_at
 handler_again x ps t s =
     let end = Sign 125 ∷ Sign 41 ∷ Sign 59 ∷ ps in
-    let h = head_step 44 x.line x.attributes (Value x.address ∷ end) t refl s in
+    let h = head_step named.Common 44 x.line x.attributes (Value x.address ∷ end) t refl s in
     let t0 = h.0 in
     let a = value_step x.address end t0 h.2 in
     let t1 = others t0 in
     let l = tail_step ps t1 a.1 in
     (others (others (others t1)), rw (h.1, a.0, l.0) refl, l.1)
 
--- Where a statement may stand: classes outside of classes, their ends inside, mutexes in the profile.
+-- Where a statement may stand: classes outside of classes, their ends inside; mutexes, memory pools and mailboxes in the
+-- profile.
 abbrev pub MayStand : Bool → Bool → Statement → Type 0
 MayStand standard in_class (Board processors ram) = Unit {0}
 MayStand standard in_class (Class n) = in_class ≡ false
@@ -327,6 +371,8 @@ MayStand standard in_class (Flag x) = Unit {0}
 MayStand standard in_class (Queue x) = Unit {0}
 MayStand standard in_class (SpinLock x) = Unit {0}
 MayStand standard in_class (Mutex x) = standard ≡ true
+MayStand standard in_class (Pool x) = standard ≡ true
+MayStand standard in_class (Mailbox x) = standard ≡ true
 MayStand standard in_class (Handler x) = Unit {0}
 
 pub statement_again : (standard in_class : Bool) (x : Statement) (ps : List Piece) (t : Text) → MayStand standard in_class x → Ahead (form x ++ ps) t → Reads (statement_at standard in_class t) x ps
@@ -365,6 +411,14 @@ statement_again standard in_class (SpinLock x) ps t may s =
 statement_again standard in_class (Mutex x) ps t may s =
     let f = exactly_step (codes "CRE_MTX") (mutex_pieces x.id x.protocol x.ceiling ps) t s in
     let r = mutex_again x ps (others t) f.1 in
+    (r.0, rw (f.0, may) r.1, r.2)
+statement_again standard in_class (Pool x) ps t may s =
+    let f = exactly_step (codes "CRE_MPF") (object_pieces x.id x.attributes (Numeral x.count ∷ Sign 44 ∷ Numeral x.size ∷ Sign 44 ∷ StackValue x.area ∷ []) ps) t s in
+    let r = pool_again x ps (others t) f.1 in
+    (r.0, rw (f.0, may) r.1, r.2)
+statement_again standard in_class (Mailbox x) ps t may s =
+    let f = exactly_step (codes "CRE_MBX") (mailbox_pieces x.id x.attributes x.priorities ps) t s in
+    let r = mailbox_again x ps (others t) f.1 in
     (r.0, rw (f.0, may) r.1, r.2)
 statement_again standard in_class (Handler x) ps t may s =
     let f = exactly_step (codes "DEF_INH") (object_pieces x.line x.attributes (Value x.address ∷ []) ps) t s in

@@ -17,12 +17,14 @@ use Rattle.brd_config.specs.declared.fault.ConfigFault.{ConfigFault}
 use Rattle.brd_config.specs.declared.fault.ConfigFault.TheVariants.{NoMemory, Syntax}
 use Rattle.brd_config.specs.declared.objects.Operand.{Operand}
 use Rattle.brd_config.specs.declared.objects.Stack.{Stack}
+use Rattle.brd_config.specs.declared.statement.AttributeNames.{AttributeNames}
+use Rattle.brd_config.specs.declared.statement.AttributeNames.TheVariants as named
 use Rattle.brd_config.specs.declared.statement.Keyword.{Keyword}
 use Rattle.brd_config.specs.declared.statement.Keyword.TheVariants as keywords
 use Rattle.brd_config.specs.declared.statement.Statement.{Statement}
-use Rattle.brd_config.specs.declared.statement.Statement.TheVariants.{Board, Class, ClassEnd, Task, Semaphore, Flag, Queue, SpinLock, Mutex, Handler}
-use Rattle.brd_config.specs.Statements.{keyword_names, keyword_of, board_at, class_at, task_tail_at, task_at, semaphore_at, flag_at, queue_at, spin_lock_at, mutex_at, handler_at, behind_keyword, statement_by, statement_at}
-use Rattle.brd_config.specs.Reading.{named_in, attribute_of, class_of, protocol_of, operand_of, stack_of, is_area, run_of, number_at, expect_mark, mark_at, attribute_at, expect_joint, joint_at, attribute_step, attributes_at, operand_at, stack_at, area_at, class_number_at, protocol_at, listed_number_at, listed_operand_at, head_at, tail_at}
+use Rattle.brd_config.specs.declared.statement.Statement.TheVariants.{Board, Class, ClassEnd, Task, Semaphore, Flag, Queue, SpinLock, Mutex, Pool, Mailbox, Handler}
+use Rattle.brd_config.specs.Statements.{keyword_names, keyword_of, board_at, class_at, task_tail_at, task_at, semaphore_at, flag_at, queue_at, spin_lock_at, mutex_at, pool_at, mailbox_at, handler_at, behind_keyword, statement_by, statement_at}
+use Rattle.brd_config.specs.Reading.{named_in, attribute_of, class_of, protocol_of, operand_of, stack_of, is_null, is_area, run_of, number_at, expect_mark, mark_at, attribute_at, expect_joint, joint_at, attribute_step, attributes_at, operand_at, stack_at, area_at, null_at, class_number_at, protocol_at, listed_number_at, listed_operand_at, head_at, tail_at}
 use Rattle.brd_config.specs.Grammar.{Piece, Joined, IsSpelled, AreSpelled, form}
 use Rattle.brd_config.specs.Grammar.Piece.{Exactly, Sign, Numeral, Attributes, Value, StackValue, Area, ClassName, Protocol}
 use Rattle.brd_config.specs.Grammar.Joined.{last, bar}
@@ -129,6 +131,14 @@ area_back t u e =
     let p = passed (is_area a.0) (Syntax (first t).line) (others t) u a.2 in
     one_front Area (Run a.0) t u (λ e. cc) (a.0, refl, p.0) (run_is (first t).token (first t).line a.0 a.1) p.1
 
+null_back : (t u : Text) → null_at t ≡ Ok u → Front (Exactly (codes "NULL") ∷ []) t u
+unfolding null_at is_null
+null_back t u e =
+    let a = bind_ok (run_of (first t).token (first t).line) (λ run. cond (is_null run) (Ok (others t)) (Err (Syntax (first t).line))) u e in
+    let p = passed (is_null a.0) (Syntax (first t).line) (others t) u a.2 in
+    let same : a.0 ≡ codes "NULL" = (bytes_eq-Decides a.0 (codes "NULL")).0 p.0 in
+    one_front (Exactly (codes "NULL")) (Run a.0) t u (λ e. cc) (ap (λ (run : List ℕ). Run run ∷ []) same) (run_is (first t).token (first t).line a.0 a.1) p.1
+
 mark_is : (mark : ℕ) (w : Token) (line : ℕ) (rest u : Text) → expect_mark mark w line rest ≡ Ok u → (w ≡ Mark mark) × (rest ≡ u)
 mark_is mark (Run run) line rest u e = absurd (cc)
 mark_is mark (Mark b) line rest u e =
@@ -169,21 +179,21 @@ joint_is end Unclosed line rest j e = absurd (cc)
 joint_is end End line rest j e = absurd (cc)
 
 -- a turn over one attribute
-pub record OneAttribute (end before : ℕ) (t : Text) (flow : Flow (ℕ × Text) (ℕ × Text)) : Type 0 where
+pub record OneAttribute (names : AttributeNames) (end before : ℕ) (t : Text) (flow : Flow (ℕ × Text) (ℕ × Text)) : Type 0 where
   pub run : List ℕ
   pub bits : ℕ
   pub more : Bool
   pub rest : Text
-  pub named : attribute_of run ≡ Some bits
+  pub is_named : attribute_of names run ≡ Some bits
   pub tokens : bare_tokens t ≡ Run run ∷ Mark (joint end more) ∷ bare_tokens rest
   pub goes : flow_of more (bit_or before bits, rest) (bit_or before bits, rest) ≡ flow
 
-pub attribute_back : (end before : ℕ) (t : Text) (flow : Flow (ℕ × Text) (ℕ × Text)) → attribute_step end (before, t) ≡ Ok flow → OneAttribute end before t flow
+pub attribute_back : (names : AttributeNames) (end before : ℕ) (t : Text) (flow : Flow (ℕ × Text) (ℕ × Text)) → attribute_step names end (before, t) ≡ Ok flow → OneAttribute names end before t flow
 unfolding attribute_step attribute_at joint_at
-attribute_back end before t flow e =
-    let a = bind_ok (read_by attribute_of t) (λ a. joint_at end a.1 >>= λ joint. Ok (flow_of joint.0 (bit_or before a.0, joint.1) (bit_or before a.0, joint.1))) flow e in
+attribute_back names end before t flow e =
+    let a = bind_ok (read_by (attribute_of names) t) (λ a. joint_at end a.1 >>= λ joint. Ok (flow_of joint.0 (bit_or before a.0, joint.1) (bit_or before a.0, joint.1))) flow e in
     let j = bind_ok (joint_at end a.0.1) (λ joint. Ok (flow_of joint.0 (bit_or before a.0.0, joint.1) (bit_or before a.0.0, joint.1))) flow a.2 in
-    let r = run_back attribute_of t a.0 a.1 in
+    let r = run_back (attribute_of names) t a.0 a.1 in
     let m = joint_is end (first a.0.1).token (first a.0.1).line (others a.0.1) j.0 j.1 in
     let behind : bare_tokens a.0.1 ≡ Mark (joint end j.0.0) ∷ bare_tokens j.0.1 = first_token a.0.1 (Mark (joint end j.0.0)) (λ e. cc) m.0 ∙ ap (λ (v : Text). Mark (joint end j.0.0) ∷ bare_tokens v) m.1 in
     record {
@@ -191,40 +201,40 @@ attribute_back end before t flow e =
       bits = a.0.0;
       more = j.0.0;
       rest = j.0.1;
-      named = r.value;
+      is_named = r.value;
       tokens = first_token t (Run r.run) (λ e. cc) r.token ∙ ap (λ (v : Text). Run r.run ∷ bare_tokens v) r.behind ∙ ap (λ (ws : List Token). Run r.run ∷ ws) behind;
       goes = ok_is (flow_of j.0.0 (bit_or before a.0.0, j.0.1) (bit_or before a.0.0, j.0.1)) flow j.2;
     }
 
 -- attributes, and the mark after them
-record AreJoined (end before bits : ℕ) (t u : Text) : Type 0 where
+record AreJoined (names : AttributeNames) (end before bits : ℕ) (t u : Text) : Type 0 where
   front : List Token
-  joined : Joined before bits front
+  joined : Joined names before bits front
   tokens : bare_tokens t ≡ front ++ Mark end ∷ bare_tokens u
 
-joined_by : (end n before : ℕ) (t rest : Text) (run : List ℕ) (bits : ℕ) (more : Bool) (r : ℕ × Text) → attribute_of run ≡ Some bits → bare_tokens t ≡ Run run ∷ Mark (joint end more) ∷ bare_tokens rest
-    → ((b : ℕ) (t : Text) → repeated NoMemory (attribute_step end) n (b, t) ≡ Ok r → AreJoined end b r.0 t r.1)
-    → followed (repeated NoMemory (attribute_step end) n) (flow_of more (bit_or before bits, rest) (bit_or before bits, rest)) ≡ Ok r → AreJoined end before r.0 t r.1
-joined_by end n before t rest run bits true r named tokens again e =
+joined_by : (names : AttributeNames) (end n before : ℕ) (t rest : Text) (run : List ℕ) (bits : ℕ) (more : Bool) (r : ℕ × Text) → attribute_of names run ≡ Some bits → bare_tokens t ≡ Run run ∷ Mark (joint end more) ∷ bare_tokens rest
+    → ((b : ℕ) (t : Text) → repeated NoMemory (attribute_step names end) n (b, t) ≡ Ok r → AreJoined names end b r.0 t r.1)
+    → followed (repeated NoMemory (attribute_step names end) n) (flow_of more (bit_or before bits, rest) (bit_or before bits, rest)) ≡ Ok r → AreJoined names end before r.0 t r.1
+joined_by names end n before t rest run bits true r is tokens again e =
     let j = again (bit_or before bits) rest e in
-    record { front = Run run ∷ Mark 124 ∷ j.front; joined = bar before run bits r.0 j.front named j.joined; tokens = tokens ∙ ap (λ (ws : List Token). Run run ∷ Mark 124 ∷ ws) j.tokens }
-joined_by end n before t rest run bits false r named tokens again e =
+    record { front = Run run ∷ Mark 124 ∷ j.front; joined = bar names before run bits r.0 j.front is j.joined; tokens = tokens ∙ ap (λ (ws : List Token). Run run ∷ Mark 124 ∷ ws) j.tokens }
+joined_by names end n before t rest run bits false r is tokens again e =
     let made : ℕ × Text = (bit_or before bits, rest) in
     let same : made ≡ r = ok_is made r e in
-    subst (λ (q : ℕ × Text). AreJoined end before q.0 t q.1) same (record { front = Run run ∷ []; joined = last before run bits named; tokens = tokens })
+    subst (λ (q : ℕ × Text). AreJoined names end before q.0 t q.1) same (record { front = Run run ∷ []; joined = last names before run bits is; tokens = tokens })
 
-joined_back : (end n before : ℕ) (t : Text) (r : ℕ × Text) → repeated NoMemory (attribute_step end) n (before, t) ≡ Ok r → AreJoined end before r.0 t r.1
+joined_back : (names : AttributeNames) (end n before : ℕ) (t : Text) (r : ℕ × Text) → repeated NoMemory (attribute_step names end) n (before, t) ≡ Ok r → AreJoined names end before r.0 t r.1
 unfolding repeated
-joined_back end zero before t r e = absurd (cc)
-joined_back end (suc n) before t r e =
-    let s = bind_ok (attribute_step end (before, t)) (followed (repeated NoMemory (attribute_step end) n)) r e in
-    let a = attribute_back end before t s.0 s.1 in
-    joined_by end n before t a.rest a.run a.bits a.more r a.named a.tokens (λ b w x. joined_back end n b w r x) (ap (followed (repeated NoMemory (attribute_step end) n)) a.goes ∙ s.2)
+joined_back names end zero before t r e = absurd (cc)
+joined_back names end (suc n) before t r e =
+    let s = bind_ok (attribute_step names end (before, t)) (followed (repeated NoMemory (attribute_step names end) n)) r e in
+    let a = attribute_back names end before t s.0 s.1 in
+    joined_by names end n before t a.rest a.run a.bits a.more r a.is_named a.tokens (λ b w x. joined_back names end n b w r x) (ap (followed (repeated NoMemory (attribute_step names end) n)) a.goes ∙ s.2)
 
-attributes_back : (end : ℕ) (t : Text) (r : ℕ × Text) → attributes_at end t ≡ Ok r → Front (Attributes r.0 ∷ Sign end ∷ []) t r.1
+attributes_back : (names : AttributeNames) (end : ℕ) (t : Text) (r : ℕ × Text) → attributes_at names end t ≡ Ok r → Front (Attributes names r.0 ∷ Sign end ∷ []) t r.1
 unfolding attributes_at
-attributes_back end t r e =
-    let j = joined_back end (suc (length t.tokens)) 0 t r e in
+attributes_back names end t r e =
+    let j = joined_back names end (suc (length t.tokens)) 0 t r e in
     record {
       front = j.front ++ Mark end ∷ [];
       spelled = (j.front, Mark end ∷ [], j.joined, (Mark end ∷ [], [], refl, refl, refl), refl);
@@ -234,8 +244,8 @@ attributes_back end t r e =
 -- ---- statements
 
 -- ( id , { attributes and the mark that ends them
-abbrev head_pieces : ℕ → ℕ → ℕ → List Piece
-head_pieces end id attributes = Sign 40 ∷ Numeral id ∷ Sign 44 ∷ Sign 123 ∷ Attributes attributes ∷ Sign end ∷ []
+abbrev head_pieces : AttributeNames → ℕ → ℕ → ℕ → List Piece
+head_pieces names end id attributes = Sign 40 ∷ Numeral id ∷ Sign 44 ∷ Sign 123 ∷ Attributes names attributes ∷ Sign end ∷ []
 
 -- a step that did not fail, and what follows from its value
 step_of : {A B Goal : Type 0} (r : Result A ConfigFault) (f : A → Result B ConfigFault) (y : B) → (r >>= f) ≡ Ok y → ((x : A) → r ≡ Ok x → f x ≡ Ok y → Goal) → Goal
@@ -262,12 +272,12 @@ listed_operand_back t r e =
     subst (λ (q : Operand × Text). Front (Value q.0 ∷ Sign 44 ∷ []) t q.1) (ok_is (operand.0, listed) r e)
     (value_back t operand a then sign_back 44 operand.1 listed b)
 
-head_back : (end : ℕ) (t : Text) (r : ℕ × ℕ × Text) → head_at end t ≡ Ok r → Front (head_pieces end r.0 r.1) t r.2
+head_back : (names : AttributeNames) (end : ℕ) (t : Text) (r : ℕ × ℕ × Text) → head_at names end t ≡ Ok r → Front (head_pieces names end r.0 r.1) t r.2
 unfolding head_at
-head_back end t r e =
+head_back names end t r e =
     e gives λ opened a e. e gives λ id b e. e gives λ inner c e. e gives λ attributes d e.
-    subst (λ (q : ℕ × ℕ × Text). Front (head_pieces end q.0 q.1) t q.2) (ok_is (id.0, attributes.0, attributes.1) r e)
-    (sign_back 40 t opened a then listed_number_back opened id b then sign_back 123 id.1 inner c then attributes_back end inner attributes d)
+    subst (λ (q : ℕ × ℕ × Text). Front (head_pieces names end q.0 q.1) t q.2) (ok_is (id.0, attributes.0, attributes.1) r e)
+    (sign_back 40 t opened a then listed_number_back opened id b then sign_back 123 id.1 inner c then attributes_back names end inner attributes d)
 
 tail_back : (t u : Text) → tail_at t ≡ Ok u → Front (Sign 125 ∷ Sign 41 ∷ Sign 59 ∷ []) t u
 unfolding tail_at
@@ -291,6 +301,8 @@ keyword_name keywords.Flag = codes "CRE_FLG"
 keyword_name keywords.Queue = codes "CRE_DTQ"
 keyword_name keywords.SpinLock = codes "CRE_SPN"
 keyword_name keywords.Mutex = codes "CRE_MTX"
+keyword_name keywords.Pool = codes "CRE_MPF"
+keyword_name keywords.Mailbox = codes "CRE_MBX"
 keyword_name keywords.Handler = codes "DEF_INH"
 
 -- after its first token a statement has the rest of its form, and it may stand here
@@ -319,7 +331,7 @@ task_back standard in_class t r e =
     e gives λ head h e. e gives λ exinf a e. e gives λ address b e. e gives λ rest c e.
     subst (Behind (codes "CRE_TSK") standard in_class t) (ok_is (Task (record { id = head.0; attributes = head.1; exinf = exinf.0; address = address.0; priority = rest.0; stack_size = rest.1; stack = rest.2 }), rest.3) r e)
     (record {
-      whole = λ s x. x then head_back 44 t head h then listed_operand_back head.2 exinf a then listed_operand_back exinf.1 address b then task_tail_back address.1 rest c;
+      whole = λ s x. x then head_back named.Common 44 t head h then listed_operand_back head.2 exinf a then listed_operand_back exinf.1 address b then task_tail_back address.1 rest c;
       may = tt;
     })
 
@@ -328,28 +340,28 @@ unfolding semaphore_at
 semaphore_back standard in_class t r e =
     e gives λ head h e. e gives λ initial a e. e gives λ maximum b e. e gives λ ended l e.
     subst (Behind (codes "CRE_SEM") standard in_class t) (ok_is (Semaphore (record { id = head.0; attributes = head.1; initial = initial.0; maximum = maximum.0 }), ended) r e)
-    (record { whole = λ s x. x then head_back 44 t head h then listed_number_back head.2 initial a then numeral_back initial.1 maximum b then tail_back maximum.1 ended l; may = tt })
+    (record { whole = λ s x. x then head_back named.Common 44 t head h then listed_number_back head.2 initial a then numeral_back initial.1 maximum b then tail_back maximum.1 ended l; may = tt })
 
 flag_back : (standard in_class : Bool) (t : Text) (r : Statement × Text) → flag_at t ≡ Ok r → Behind (codes "CRE_FLG") standard in_class t r
 unfolding flag_at
 flag_back standard in_class t r e =
     e gives λ head h e. e gives λ pattern a e. e gives λ ended l e.
     subst (Behind (codes "CRE_FLG") standard in_class t) (ok_is (Flag (record { id = head.0; attributes = head.1; pattern = pattern.0 }), ended) r e)
-    (record { whole = λ s x. x then head_back 44 t head h then numeral_back head.2 pattern a then tail_back pattern.1 ended l; may = tt })
+    (record { whole = λ s x. x then head_back named.Common 44 t head h then numeral_back head.2 pattern a then tail_back pattern.1 ended l; may = tt })
 
 queue_back : (standard in_class : Bool) (t : Text) (r : Statement × Text) → queue_at t ≡ Ok r → Behind (codes "CRE_DTQ") standard in_class t r
 unfolding queue_at
 queue_back standard in_class t r e =
     e gives λ head h e. e gives λ capacity a e. e gives λ area b e. e gives λ ended l e.
     subst (Behind (codes "CRE_DTQ") standard in_class t) (ok_is (Queue (record { id = head.0; attributes = head.1; capacity = capacity.0 }), ended) r e)
-    (record { whole = λ s x. x then head_back 44 t head h then listed_number_back head.2 capacity a then area_back capacity.1 area b then tail_back area ended l; may = tt })
+    (record { whole = λ s x. x then head_back named.Common 44 t head h then listed_number_back head.2 capacity a then area_back capacity.1 area b then tail_back area ended l; may = tt })
 
 spin_lock_back : (standard in_class : Bool) (t : Text) (r : Statement × Text) → spin_lock_at t ≡ Ok r → Behind (codes "CRE_SPN") standard in_class t r
 unfolding spin_lock_at
 spin_lock_back standard in_class t r e =
     e gives λ head h e. e gives λ closed a e. e gives λ ended b e.
     subst (Behind (codes "CRE_SPN") standard in_class t) (ok_is (SpinLock (record { id = head.0; attributes = head.1 }), ended) r e)
-    (record { whole = λ s x. x then head_back 125 t head h then sign_back 41 head.2 closed a then sign_back 59 closed ended b; may = tt })
+    (record { whole = λ s x. x then head_back named.Common 125 t head h then sign_back 41 head.2 closed a then sign_back 59 closed ended b; may = tt })
 
 mutex_back : (in_class : Bool) (t : Text) (r : Statement × Text) → mutex_at t ≡ Ok r → Behind (codes "CRE_MTX") true in_class t r
 unfolding mutex_at
@@ -361,12 +373,26 @@ mutex_back in_class t r e =
       may = refl;
     })
 
+pool_back : (in_class : Bool) (t : Text) (r : Statement × Text) → pool_at t ≡ Ok r → Behind (codes "CRE_MPF") true in_class t r
+unfolding pool_at
+pool_back in_class t r e =
+    e gives λ head h e. e gives λ count a e. e gives λ size b e. e gives λ area c e. e gives λ ended l e.
+    subst (Behind (codes "CRE_MPF") true in_class t) (ok_is (Pool (record { id = head.0; attributes = head.1; count = count.0; size = size.0; area = area.0 }), ended) r e)
+    (record { whole = λ s x. x then head_back named.Common 44 t head h then listed_number_back head.2 count a then listed_number_back count.1 size b then stack_back size.1 area c then tail_back area.1 ended l; may = refl })
+
+mailbox_back : (in_class : Bool) (t : Text) (r : Statement × Text) → mailbox_at t ≡ Ok r → Behind (codes "CRE_MBX") true in_class t r
+unfolding mailbox_at
+mailbox_back in_class t r e =
+    e gives λ head h e. e gives λ priorities a e. e gives λ null b e. e gives λ ended l e.
+    subst (Behind (codes "CRE_MBX") true in_class t) (ok_is (Mailbox (record { id = head.0; attributes = head.1; priorities = priorities.0 }), ended) r e)
+    (record { whole = λ s x. x then head_back named.Mailbox 44 t head h then listed_number_back head.2 priorities a then null_back priorities.1 null b then tail_back null ended l; may = refl })
+
 handler_back : (standard in_class : Bool) (t : Text) (r : Statement × Text) → handler_at t ≡ Ok r → Behind (codes "DEF_INH") standard in_class t r
 unfolding handler_at
 handler_back standard in_class t r e =
     e gives λ head h e. e gives λ address a e. e gives λ ended l e.
     subst (Behind (codes "DEF_INH") standard in_class t) (ok_is (Handler (record { line = head.0; attributes = head.1; address = address.0 }), ended) r e)
-    (record { whole = λ s x. x then head_back 44 t head h then value_back head.2 address a then tail_back address.1 ended l; may = tt })
+    (record { whole = λ s x. x then head_back named.Common 44 t head h then value_back head.2 address a then tail_back address.1 ended l; may = tt })
 
 behind_back : (standard in_class : Bool) (line : ℕ) (k : Keyword) (t : Text) (r : Statement × Text) → behind_keyword standard in_class line k t ≡ Ok r → Behind (keyword_name k) standard in_class t r
 unfolding behind_keyword keyword_name
@@ -382,6 +408,10 @@ behind_back standard in_class line keywords.Queue t r e = queue_back standard in
 behind_back standard in_class line keywords.SpinLock t r e = spin_lock_back standard in_class t r e
 behind_back true in_class line keywords.Mutex t r e = mutex_back in_class t r e
 behind_back false in_class line keywords.Mutex t r e = absurd (cc)
+behind_back true in_class line keywords.Pool t r e = pool_back in_class t r e
+behind_back false in_class line keywords.Pool t r e = absurd (cc)
+behind_back true in_class line keywords.Mailbox t r e = mailbox_back in_class t r e
+behind_back false in_class line keywords.Mailbox t r e = absurd (cc)
 behind_back standard in_class line keywords.Handler t r e = handler_back standard in_class t r e
 
 -- what a table has for a name stands beside this name
@@ -398,7 +428,7 @@ named_back (row ∷ rows) name x name_of are e =
 
 keyword_is : (run : List ℕ) (k : Keyword) → keyword_of run ≡ Some k → run ≡ keyword_name k
 unfolding keyword_of keyword_name
-keyword_is run k e = named_back keyword_names run k keyword_name (refl, (refl, (refl, (refl, (refl, (refl, (refl, (refl, (refl, tt))))))))) e
+keyword_is run k e = named_back keyword_names run k keyword_name (refl, (refl, (refl, (refl, (refl, (refl, (refl, (refl, (refl, (refl, (refl, tt))))))))))) e
 
 -- a statement at the front of a text, where it may stand
 pub record IsStatement (standard in_class : Bool) (t : Text) (r : Statement × Text) : Type 0 where
@@ -411,9 +441,9 @@ exactly run t e = one_front (Exactly run) (Run run) t (others t) (λ e. cc) refl
 by_token : (standard in_class : Bool) (w : Token) (t : Text) (r : Statement × Text) → (first t).token ≡ w → statement_by standard in_class w (first t).line (others t) ≡ Ok r → IsStatement standard in_class t r
 by_token standard in_class (Run run) t r is e =
     let k = bind_ok (or_fault (Syntax (first t).line) (keyword_of run)) (λ keyword. behind_keyword standard in_class (first t).line keyword (others t)) r e in
-    let named : run ≡ keyword_name k.0 = keyword_is run k.0 (some_is (keyword_of run) (Syntax (first t).line) k.0 k.1) in
+    let same : run ≡ keyword_name k.0 = keyword_is run k.0 (some_is (keyword_of run) (Syntax (first t).line) k.0 k.1) in
     let b = behind_back standard in_class (first t).line k.0 (others t) r k.2 in
-    record { front = b.whole t (exactly (keyword_name k.0) t (is ∙ ap (λ (x : List ℕ). Run x) named)); may = b.may }
+    record { front = b.whole t (exactly (keyword_name k.0) t (is ∙ ap (λ (x : List ℕ). Run x) same)); may = b.may }
 by_token standard in_class (Mark b) t r is e =
     let made : Statement × Text = (ClassEnd, others t) in
     let p = passed (in_class && nat_eq b 125) (Syntax (first t).line) made r e in

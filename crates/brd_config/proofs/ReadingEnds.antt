@@ -19,21 +19,27 @@ use Rattle.brd_config.specs.declared.objects.FlagConfig.{FlagConfig}
 use Rattle.brd_config.specs.declared.objects.QueueConfig.{QueueConfig}
 use Rattle.brd_config.specs.declared.objects.SpinLockConfig.{SpinLockConfig}
 use Rattle.brd_config.specs.declared.objects.MutexConfig.{MutexConfig}
+use Rattle.brd_config.specs.declared.objects.PoolConfig.{PoolConfig}
+use Rattle.brd_config.specs.declared.objects.MailboxConfig.{MailboxConfig}
 use Rattle.brd_config.specs.declared.objects.HandlerConfig.{HandlerConfig}
+use Rattle.brd_config.specs.declared.statement.AttributeNames.{AttributeNames}
+use Rattle.brd_config.specs.declared.statement.AttributeNames.TheVariants as named
 use Rattle.brd_config.specs.declared.statement.Keyword.{Keyword}
 use Rattle.brd_config.specs.declared.statement.Keyword.TheVariants as keywords
 use Rattle.brd_config.specs.declared.statement.Statement.{Statement}
-use Rattle.brd_config.specs.declared.statement.Statement.TheVariants.{Board, Class, ClassEnd, Task, Semaphore, Flag, Queue, SpinLock, Mutex, Handler}
+use Rattle.brd_config.specs.declared.statement.Statement.TheVariants.{Board, Class, ClassEnd, Task, Semaphore, Flag, Queue, SpinLock, Mutex, Pool, Mailbox, Handler}
 use Rattle.brd_config.specs.declared.statement.TaskStatement.{TaskStatement}
 use Rattle.brd_config.specs.declared.statement.SemaphoreStatement.{SemaphoreStatement}
 use Rattle.brd_config.specs.declared.statement.FlagStatement.{FlagStatement}
 use Rattle.brd_config.specs.declared.statement.QueueStatement.{QueueStatement}
 use Rattle.brd_config.specs.declared.statement.SpinLockStatement.{SpinLockStatement}
 use Rattle.brd_config.specs.declared.statement.MutexStatement.{MutexStatement}
+use Rattle.brd_config.specs.declared.statement.PoolStatement.{PoolStatement}
+use Rattle.brd_config.specs.declared.statement.MailboxStatement.{MailboxStatement}
 use Rattle.brd_config.specs.declared.statement.HandlerStatement.{HandlerStatement}
-use Rattle.brd_config.specs.Statements.{keyword_of, board_at, class_at, task_tail_at, task_at, semaphore_at, flag_at, queue_at, spin_lock_at, mutex_at, handler_at, behind_keyword, statement_by, statement_at}
-use Rattle.brd_config.specs.Reading.{attribute_of, class_of, protocol_of, operand_of, stack_of, is_area, run_of, number_at, expect_mark, mark_at, attribute_at, expect_joint, joint_at, attribute_step, attributes_at, operand_at, stack_at, area_at, class_number_at, protocol_at, listed_number_at, listed_operand_at, head_at, tail_at}
-use Rattle.brd_config.specs.Meaning.{State, within, only_bits, refused, task_numbers, task_of, semaphore_of, flag_of, queue_of, spin_lock_of, mutex_of, handler_of, added, processor_of, is_end, is_board, one_more, statement_step, statements_from, board_of, first_board, first_statement, opened, config_from, config_of}
+use Rattle.brd_config.specs.Statements.{keyword_of, board_at, class_at, task_tail_at, task_at, semaphore_at, flag_at, queue_at, spin_lock_at, mutex_at, pool_at, mailbox_at, handler_at, behind_keyword, statement_by, statement_at}
+use Rattle.brd_config.specs.Reading.{attribute_of, class_of, protocol_of, operand_of, stack_of, is_null, is_area, run_of, number_at, expect_mark, mark_at, attribute_at, expect_joint, joint_at, attribute_step, attributes_at, operand_at, stack_at, area_at, null_at, class_number_at, protocol_at, listed_number_at, listed_operand_at, head_at, tail_at}
+use Rattle.brd_config.specs.Meaning.{State, within, only_bits, refused, task_numbers, task_of, semaphore_of, flag_of, queue_of, spin_lock_of, mutex_of, pool_of, mailbox_of, handler_of, added, processor_of, is_end, is_board, one_more, statement_step, statements_from, board_of, first_board, first_statement, opened, config_from, config_of}
 use Rattle.brd_config.specs.Grammar.{Piece, Joined, IsSpelled, AreSpelled, form}
 use Rattle.brd_config.specs.Grammar.Piece.{Exactly, Sign, Numeral, Attributes, Value, StackValue, Area, ClassName, Protocol}
 use Rattle.brd_config.specs.Grammar.Joined.{last, bar}
@@ -120,13 +126,17 @@ protocol_ends : (t : Text) → Ends (protocol_at t)
 unfolding protocol_at
 protocol_ends t = read_ends protocol_of t
 
-attribute_ends : (t : Text) → Ends (attribute_at t)
+attribute_ends : (names : AttributeNames) (t : Text) → Ends (attribute_at names t)
 unfolding attribute_at
-attribute_ends t = read_ends attribute_of t
+attribute_ends names t = read_ends (attribute_of names) t
 
 area_ends : (t : Text) → Ends (area_at t)
 unfolding area_at
 area_ends t = run_ends (first t).token (first t).line then λ run. either_ends (is_area run) (answer_ends (others t)) (syntax_ends (first t).line)
+
+null_ends : (t : Text) → Ends (null_at t)
+unfolding null_at
+null_ends t = run_ends (first t).token (first t).line then λ run. either_ends (is_null run) (answer_ends (others t)) (syntax_ends (first t).line)
 
 mark_ends : (mark : ℕ) (t : Text) → Ends (mark_at mark t)
 unfolding mark_at
@@ -150,24 +160,24 @@ joint_ends end t = by_token (first t).token
 
 -- ---- attributes
 
-attribute_step_ends : (end : ℕ) (s : ℕ × Text) → Ends (attribute_step end s)
+attribute_step_ends : (names : AttributeNames) (end : ℕ) (s : ℕ × Text) → Ends (attribute_step names end s)
 unfolding attribute_step
-attribute_step_ends end s = attribute_ends s.1 then λ a. joint_ends end a.1 then λ joint. answer_ends (flow_of joint.0 (bit_or s.0 a.0, joint.1) (bit_or s.0 a.0, joint.1))
+attribute_step_ends names end s = attribute_ends names s.1 then λ a. joint_ends end a.1 then λ joint. answer_ends (flow_of joint.0 (bit_or s.0 a.0, joint.1) (bit_or s.0 a.0, joint.1))
 
 more_is : {S R : Type 0} (more : Bool) (s t : S) (r : R) → flow_of more s r ≡ More t → s ≡ t
 more_is true s t r e = cc
 more_is false s t r e = absurd (cc)
 
-attribute_less : (end : ℕ) (s next : ℕ × Text) → attribute_step end s ≡ Ok (More next) → length next.1.tokens < length s.1.tokens
-attribute_less end s next e =
-    let a = attribute_back end s.0 s.1 (More next) e in
+attribute_less : (names : AttributeNames) (end : ℕ) (s next : ℕ × Text) → attribute_step names end s ≡ Ok (More next) → length next.1.tokens < length s.1.tokens
+attribute_less names end s next e =
+    let a = attribute_back names end s.0 s.1 (More next) e in
     let made : ℕ × Text = (bit_or s.0 a.bits, a.rest) in
     let same : a.rest ≡ next.1 = ap (λ (q : ℕ × Text). q.1) (more_is a.more made next made a.goes) in
     omega (arith, ap length a.tokens, ap (λ (t : Text). length t.tokens) same, length-map s.1.tokens (λ p. p.token), length-map a.rest.tokens (λ p. p.token))
 
-attributes_end : (end : ℕ) (t : Text) → Ends (attributes_at end t)
+attributes_end : (names : AttributeNames) (end : ℕ) (t : Text) → Ends (attributes_at names end t)
 unfolding attributes_at
-attributes_end end t = turns_end (attribute_step end) (λ (s : ℕ × Text). length s.1.tokens) (attribute_step_ends end) (attribute_less end) (suc (length t.tokens)) (0, t) (omega arith)
+attributes_end names end t = turns_end (attribute_step names end) (λ (s : ℕ × Text). length s.1.tokens) (attribute_step_ends names end) (attribute_less names end) (suc (length t.tokens)) (0, t) (omega arith)
 
 -- ---- statements
 
@@ -179,9 +189,9 @@ listed_operand_ends : (t : Text) → Ends (listed_operand_at t)
 unfolding listed_operand_at
 listed_operand_ends t = operand_ends t then λ operand. mark_ends 44 operand.1 then λ listed. answer_ends _
 
-head_ends : (end : ℕ) (t : Text) → Ends (head_at end t)
+head_ends : (names : AttributeNames) (end : ℕ) (t : Text) → Ends (head_at names end t)
 unfolding head_at
-head_ends end t = mark_ends 40 t then λ opened. listed_number_ends opened then λ id. mark_ends 123 id.1 then λ inner. attributes_end end inner then λ attributes. answer_ends (id.0, attributes.0, attributes.1)
+head_ends names end t = mark_ends 40 t then λ opened. listed_number_ends opened then λ id. mark_ends 123 id.1 then λ inner. attributes_end names end inner then λ attributes. answer_ends (id.0, attributes.0, attributes.1)
 
 tail_ends : (t : Text) → Ends (tail_at t)
 unfolding tail_at
@@ -201,31 +211,39 @@ task_tail_ends t = listed_number_ends t then λ priority. listed_number_ends pri
 
 task_ends : (t : Text) → Ends (task_at t)
 unfolding task_at
-task_ends t = head_ends 44 t then λ head. listed_operand_ends head.2 then λ exinf. listed_operand_ends exinf.1 then λ address. task_tail_ends address.1 then λ rest. answer_ends _
+task_ends t = head_ends named.Common 44 t then λ head. listed_operand_ends head.2 then λ exinf. listed_operand_ends exinf.1 then λ address. task_tail_ends address.1 then λ rest. answer_ends _
 
 semaphore_ends : (t : Text) → Ends (semaphore_at t)
 unfolding semaphore_at
-semaphore_ends t = head_ends 44 t then λ head. listed_number_ends head.2 then λ initial. number_ends initial.1 then λ maximum. tail_ends maximum.1 then λ ended. answer_ends _
+semaphore_ends t = head_ends named.Common 44 t then λ head. listed_number_ends head.2 then λ initial. number_ends initial.1 then λ maximum. tail_ends maximum.1 then λ ended. answer_ends _
 
 flag_ends : (t : Text) → Ends (flag_at t)
 unfolding flag_at
-flag_ends t = head_ends 44 t then λ head. number_ends head.2 then λ pattern. tail_ends pattern.1 then λ ended. answer_ends _
+flag_ends t = head_ends named.Common 44 t then λ head. number_ends head.2 then λ pattern. tail_ends pattern.1 then λ ended. answer_ends _
 
 queue_ends : (t : Text) → Ends (queue_at t)
 unfolding queue_at
-queue_ends t = head_ends 44 t then λ head. listed_number_ends head.2 then λ capacity. area_ends capacity.1 then λ area. tail_ends area then λ ended. answer_ends _
+queue_ends t = head_ends named.Common 44 t then λ head. listed_number_ends head.2 then λ capacity. area_ends capacity.1 then λ area. tail_ends area then λ ended. answer_ends _
 
 spin_lock_ends : (t : Text) → Ends (spin_lock_at t)
 unfolding spin_lock_at
-spin_lock_ends t = head_ends 125 t then λ head. mark_ends 41 head.2 then λ closed. mark_ends 59 closed then λ ended. answer_ends _
+spin_lock_ends t = head_ends named.Common 125 t then λ head. mark_ends 41 head.2 then λ closed. mark_ends 59 closed then λ ended. answer_ends _
 
 mutex_ends : (t : Text) → Ends (mutex_at t)
 unfolding mutex_at
 mutex_ends t = mark_ends 40 t then λ opened. listed_number_ends opened then λ id. mark_ends 123 id.1 then λ inner. protocol_ends inner then λ protocol. mark_ends 44 protocol.1 then λ listed. number_ends listed then λ ceiling. tail_ends ceiling.1 then λ ended. answer_ends _
 
+pool_ends : (t : Text) → Ends (pool_at t)
+unfolding pool_at
+pool_ends t = head_ends named.Common 44 t then λ head. listed_number_ends head.2 then λ count. listed_number_ends count.1 then λ size. stack_ends size.1 then λ area. tail_ends area.1 then λ ended. answer_ends _
+
+mailbox_ends : (t : Text) → Ends (mailbox_at t)
+unfolding mailbox_at
+mailbox_ends t = head_ends named.Mailbox 44 t then λ head. listed_number_ends head.2 then λ priorities. null_ends priorities.1 then λ null. tail_ends null then λ ended. answer_ends _
+
 handler_ends : (t : Text) → Ends (handler_at t)
 unfolding handler_at
-handler_ends t = head_ends 44 t then λ head. operand_ends head.2 then λ address. tail_ends address.1 then λ ended. answer_ends _
+handler_ends t = head_ends named.Common 44 t then λ head. operand_ends head.2 then λ address. tail_ends address.1 then λ ended. answer_ends _
 
 behind_ends : (standard in_class : Bool) (line : ℕ) (k : Keyword) (t : Text) → Ends (behind_keyword standard in_class line k t)
 unfolding behind_keyword
@@ -237,6 +255,8 @@ behind_ends standard in_class line keywords.Flag t = flag_ends t
 behind_ends standard in_class line keywords.Queue t = queue_ends t
 behind_ends standard in_class line keywords.SpinLock t = spin_lock_ends t
 behind_ends standard in_class line keywords.Mutex t = either_ends standard (mutex_ends t) (syntax_ends line)
+behind_ends standard in_class line keywords.Pool t = either_ends standard (pool_ends t) (syntax_ends line)
+behind_ends standard in_class line keywords.Mailbox t = either_ends standard (mailbox_ends t) (syntax_ends line)
 behind_ends standard in_class line keywords.Handler t = handler_ends t
 
 statement_ends : (standard in_class : Bool) (t : Text) → Ends (statement_at standard in_class t)
@@ -305,6 +325,14 @@ mutex_of_ends : (line : ℕ) (mutexes : List MutexConfig) (x : MutexStatement) �
 unfolding mutex_of
 mutex_of_ends line mutexes x = id_ends line 1 255 x.id then λ id. new_ends line _ then λ new. within_ends 0 3 (BadAttribute line) x.protocol (λ e. cc) then λ number. within_ends _ 16 (BadPriority line) x.ceiling (λ e. cc) then λ ceiling. answer_ends _
 
+pool_of_ends : (line ram : ℕ) (pools : List PoolConfig) (x : PoolStatement) → Ends (pool_of line ram pools x)
+unfolding pool_of
+pool_of_ends line ram pools x = id_ends line 1 255 x.id then λ id. new_ends line _ then λ new. bits_end line 1 x.attributes then λ attributes. count_ends line 1 256 x.count then λ count. count_ends line 1 ram x.size then λ size. answer_ends _
+
+mailbox_of_ends : (line : ℕ) (mailboxes : List MailboxConfig) (x : MailboxStatement) → Ends (mailbox_of line mailboxes x)
+unfolding mailbox_of
+mailbox_of_ends line mailboxes x = id_ends line 1 255 x.id then λ id. new_ends line _ then λ new. bits_end line 3 x.attributes then λ attributes. within_ends 1 16 (BadPriority line) x.priorities (λ e. cc) then λ priorities. answer_ends _
+
 handler_of_ends : (line : ℕ) (handlers : List HandlerConfig) (processor : ℕ) (x : HandlerStatement) → Ends (handler_of line handlers processor x)
 unfolding handler_of
 handler_of_ends line handlers processor x = id_ends line 0 31 x.line then λ number. new_ends line _ then λ new. bits_end line 1 x.attributes then λ attributes. answer_ends _
@@ -320,6 +348,8 @@ added_ends line s (Flag x) = flag_of_ends line s.config.flags x then λ flag. an
 added_ends line s (Queue x) = queue_of_ends line s.config.queues x then λ queue. answer_ends _
 added_ends line s (SpinLock x) = spin_lock_of_ends line s.config.spin_locks x then λ spin_lock. answer_ends _
 added_ends line s (Mutex x) = mutex_of_ends line s.config.mutexes x then λ mutex. answer_ends _
+added_ends line s (Pool x) = pool_of_ends line s.config.ram s.config.pools x then λ pool. answer_ends _
+added_ends line s (Mailbox x) = mailbox_of_ends line s.config.mailboxes x then λ mailbox. answer_ends _
 added_ends line s (Handler x) = handler_of_ends line s.config.handlers (processor_of s.class) x then λ handler. answer_ends _
 
 one_more_ends : (s : State × Text) → Ends (one_more s)
@@ -336,11 +366,11 @@ some_token : (p : Piece) (tokens : List Token) → IsSpelled p tokens → 1 ≤ 
 some_token (Exactly run) tokens s = omega (arith, ap length s)
 some_token (Sign b) tokens s = omega (arith, ap length s)
 some_token (Numeral n) tokens s = omega (arith, ap length s.1)
-some_token (Attributes bits) tokens s = joined_some 0 bits tokens s
+some_token (Attributes names bits) tokens s = joined_some names 0 bits tokens s
   where
-    joined_some : (before bits : ℕ) (tokens : List Token) → Joined before bits tokens → 1 ≤ length tokens
-    joined_some before _ _ (last _ run bits h) = omega arith
-    joined_some before _ _ (bar _ run bits all tokens h j) = omega arith
+    joined_some : (names : AttributeNames) (before bits : ℕ) (tokens : List Token) → Joined names before bits tokens → 1 ≤ length tokens
+    joined_some names before _ _ (last _ _ run bits h) = omega arith
+    joined_some names before _ _ (bar _ _ run bits all tokens h j) = omega arith
 some_token (Value v) tokens s = omega (arith, ap length s.1)
 some_token (StackValue v) tokens s = omega (arith, ap length s.1)
 some_token Area tokens s = omega (arith, ap length s.1)
@@ -361,6 +391,8 @@ some_piece (Flag x) = omega arith
 some_piece (Queue x) = omega arith
 some_piece (SpinLock x) = omega arith
 some_piece (Mutex x) = omega arith
+some_piece (Pool x) = omega arith
+some_piece (Mailbox x) = omega arith
 some_piece (Handler x) = omega arith
 
 statement_less : (standard in_class : Bool) (t : Text) (r : Statement × Text) → statement_at standard in_class t ≡ Ok r → length r.1.tokens < length t.tokens

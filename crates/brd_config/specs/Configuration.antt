@@ -9,6 +9,8 @@ use Rattle.brd_config.specs.declared.objects.SpinLockConfig.{SpinLockConfig}
 use Rattle.brd_config.specs.declared.objects.MutexConfig.{MutexConfig}
 use Rattle.brd_config.specs.declared.objects.Protocol.{Protocol}
 use Rattle.brd_config.specs.declared.objects.Protocol.TheVariants as protocol
+use Rattle.brd_config.specs.declared.objects.PoolConfig.{PoolConfig}
+use Rattle.brd_config.specs.declared.objects.MailboxConfig.{MailboxConfig}
 use Rattle.brd_config.specs.declared.objects.HandlerConfig.{HandlerConfig}
 
 -- whether the kernel has the profile PROFILE(STANDARD), and the objects of each kind in the order of their statements
@@ -22,6 +24,8 @@ pub record Configuration : Type 0 where
   pub queues : List QueueConfig
   pub spin_locks : List SpinLockConfig
   pub mutexes : List MutexConfig
+  pub pools : List PoolConfig
+  pub mailboxes : List MailboxConfig
   pub handlers : List HandlerConfig
 
 -- from low to high
@@ -65,6 +69,18 @@ pub record IsMutex (m : MutexConfig) : Type 0 where
   pub id : IsWithin 1 255 m.id
   pub ceiling : IsWithin (least_ceiling m.protocol) 16 m.ceiling
 
+-- a block has at most as many bytes as RAM
+pub record IsPool (ram : ℕ) (p : PoolConfig) : Type 0 where
+  pub id : IsWithin 1 255 p.id
+  pub attributes : p.attributes.0 ≤ 1
+  pub count : IsWithin 1 256 p.count
+  pub size : IsWithin 1 ram p.size
+
+pub record IsMailbox (m : MailboxConfig) : Type 0 where
+  pub id : IsWithin 1 255 m.id
+  pub attributes : m.attributes.0 ≤ 3
+  pub priorities : IsWithin 1 16 m.priorities
+
 pub record IsHandler (processors : ℕ) (h : HandlerConfig) : Type 0 where
   pub line : h.line ≤ 31
   pub processor : IsWithin 1 processors h.processor
@@ -78,6 +94,8 @@ pub record IsConfiguration (c : Configuration) : Type 0 where
   pub queues : All IsQueue c.queues
   pub spin_locks : All IsSpinLock c.spin_locks
   pub mutexes : All IsMutex c.mutexes
+  pub pools : All (IsPool c.ram) c.pools
+  pub mailboxes : All IsMailbox c.mailboxes
   pub handlers : All (IsHandler c.processors) c.handlers
   pub task_ids : AllPairs (λ s t. s.id ≢ t.id) c.tasks
   pub semaphore_ids : AllPairs (λ s t. s.id ≢ t.id) c.semaphores
@@ -85,4 +103,6 @@ pub record IsConfiguration (c : Configuration) : Type 0 where
   pub queue_ids : AllPairs (λ s t. s.id ≢ t.id) c.queues
   pub spin_lock_ids : AllPairs (λ s t. s.id ≢ t.id) c.spin_locks
   pub mutex_ids : AllPairs (λ s t. s.id ≢ t.id) c.mutexes
+  pub pool_ids : AllPairs (λ s t. s.id ≢ t.id) c.pools
+  pub mailbox_ids : AllPairs (λ s t. s.id ≢ t.id) c.mailboxes
   pub handler_lines : AllPairs (λ s t. s.line ≢ t.line) c.handlers

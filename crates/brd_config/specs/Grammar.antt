@@ -15,16 +15,23 @@ use Rattle.brd_config.specs.declared.objects.FlagConfig.{FlagConfig}
 use Rattle.brd_config.specs.declared.objects.QueueConfig.{QueueConfig}
 use Rattle.brd_config.specs.declared.objects.SpinLockConfig.{SpinLockConfig}
 use Rattle.brd_config.specs.declared.objects.MutexConfig.{MutexConfig}
+use Rattle.brd_config.specs.declared.objects.PoolConfig.{PoolConfig}
+use Rattle.brd_config.specs.declared.objects.MailboxConfig.{MailboxConfig}
 use Rattle.brd_config.specs.declared.objects.HandlerConfig.{HandlerConfig}
+use Rattle.brd_config.specs.declared.statement.AttributeNames.{AttributeNames}
+use Rattle.brd_config.specs.declared.statement.AttributeNames.TheVariants as named
 use Rattle.brd_config.specs.declared.statement.Statement.{Statement}
 use Rattle.brd_config.specs.declared.statement.Statement.TheVariants.{Board, Class, ClassEnd, Task, Semaphore, Flag}
-use Rattle.brd_config.specs.declared.statement.Statement.TheVariants.{Queue, SpinLock, Mutex, Handler}
+use Rattle.brd_config.specs.declared.statement.Statement.TheVariants.{Queue, SpinLock, Mutex, Pool, Mailbox}
+use Rattle.brd_config.specs.declared.statement.Statement.TheVariants.{Handler}
 use Rattle.brd_config.specs.declared.statement.TaskStatement.{TaskStatement}
 use Rattle.brd_config.specs.declared.statement.SemaphoreStatement.{SemaphoreStatement}
 use Rattle.brd_config.specs.declared.statement.FlagStatement.{FlagStatement}
 use Rattle.brd_config.specs.declared.statement.QueueStatement.{QueueStatement}
 use Rattle.brd_config.specs.declared.statement.SpinLockStatement.{SpinLockStatement}
 use Rattle.brd_config.specs.declared.statement.MutexStatement.{MutexStatement}
+use Rattle.brd_config.specs.declared.statement.PoolStatement.{PoolStatement}
+use Rattle.brd_config.specs.declared.statement.MailboxStatement.{MailboxStatement}
 use Rattle.brd_config.specs.declared.statement.HandlerStatement.{HandlerStatement}
 use Rattle.brd_config.specs.Reading.{attribute_of, class_of, protocol_of, operand_of, stack_of, is_area}
 use Rattle.brd_config.specs.Configuration.{Configuration, IsWithin, IsConfiguration}
@@ -37,19 +44,20 @@ pub data Piece : Type 0 where
   Exactly : List ℕ → Piece
   Sign : ℕ → Piece
   Numeral : ℕ → Piece
-  Attributes : ℕ → Piece
+  Attributes : AttributeNames → ℕ → Piece
   Value : Operand → Piece
   StackValue : Stack → Piece
   Area : Piece
   ClassName : ℕ → Piece
   Protocol : ℕ → Piece
 
--- Attributes with bars between them, whose bits are joined to those before them and come to all of them.
-pub data Joined : ℕ → ℕ → List Token → Type 0 where
-  last : (before : ℕ) (run : List ℕ) (bits : ℕ) → attribute_of run ≡ Some bits →
-      Joined before (bit_or before bits) (Run run ∷ [])
-  bar : (before : ℕ) (run : List ℕ) (bits all : ℕ) (tokens : List Token) → attribute_of run ≡ Some bits →
-      Joined (bit_or before bits) all tokens → Joined before all (Run run ∷ Mark 124 ∷ tokens)
+-- Attributes of these names with bars between them, whose bits are joined to those before them and come to all of them.
+pub data Joined : AttributeNames → ℕ → ℕ → List Token → Type 0 where
+  last : (names : AttributeNames) (before : ℕ) (run : List ℕ) (bits : ℕ) → attribute_of names run ≡ Some bits →
+      Joined names before (bit_or before bits) (Run run ∷ [])
+  bar : (names : AttributeNames) (before : ℕ) (run : List ℕ) (bits all : ℕ) (tokens : List Token) →
+      attribute_of names run ≡ Some bits → Joined names (bit_or before bits) all tokens →
+      Joined names before all (Run run ∷ Mark 124 ∷ tokens)
 
 -- one run, of which this is true
 abbrev pub OneRun : (List ℕ → Type 0) → List Token → Type 0
@@ -59,7 +67,7 @@ abbrev pub IsSpelled : Piece → List Token → Type 0
 IsSpelled (Exactly bytes) tokens = tokens ≡ Run bytes ∷ []
 IsSpelled (Sign b) tokens = tokens ≡ Mark b ∷ []
 IsSpelled (Numeral n) tokens = OneRun (λ run. number_of run ≡ Some n) tokens
-IsSpelled (Attributes bits) tokens = Joined 0 bits tokens
+IsSpelled (Attributes names bits) tokens = Joined names 0 bits tokens
 IsSpelled (Value v) tokens = OneRun (λ run. operand_of run ≡ Some v) tokens
 IsSpelled (StackValue v) tokens = OneRun (λ run. stack_of run ≡ Some v) tokens
 IsSpelled Area tokens = OneRun (λ run. is_area run ≡ true) tokens
@@ -77,7 +85,7 @@ AreSpelled (p ∷ ps) tokens =
 -- ( id , { attributes , .. } ) ;
 abbrev pub object : List ℕ → ℕ → ℕ → List Piece → List Piece
 object keyword id attributes fields =
-    Exactly keyword ∷ Sign 40 ∷ Numeral id ∷ Sign 44 ∷ Sign 123 ∷ Attributes attributes ∷ Sign 44
+    Exactly keyword ∷ Sign 40 ∷ Numeral id ∷ Sign 44 ∷ Sign 123 ∷ Attributes named.Common attributes ∷ Sign 44
     ∷ (fields ++ Sign 125 ∷ Sign 41 ∷ Sign 59 ∷ [])
 
 abbrev pub form : Statement → List Piece
@@ -93,11 +101,17 @@ form (Semaphore s) = object (codes "CRE_SEM") s.id s.attributes (Numeral s.initi
 form (Flag f) = object (codes "CRE_FLG") f.id f.attributes (Numeral f.pattern ∷ [])
 form (Queue q) = object (codes "CRE_DTQ") q.id q.attributes (Numeral q.capacity ∷ Sign 44 ∷ Area ∷ [])
 form (SpinLock s) =
-    Exactly (codes "CRE_SPN") ∷ Sign 40 ∷ Numeral s.id ∷ Sign 44 ∷ Sign 123 ∷ Attributes s.attributes ∷ Sign 125
-    ∷ Sign 41 ∷ Sign 59 ∷ []
+    Exactly (codes "CRE_SPN") ∷ Sign 40 ∷ Numeral s.id ∷ Sign 44 ∷ Sign 123 ∷ Attributes named.Common s.attributes
+    ∷ Sign 125 ∷ Sign 41 ∷ Sign 59 ∷ []
 form (Mutex m) =
     Exactly (codes "CRE_MTX") ∷ Sign 40 ∷ Numeral m.id ∷ Sign 44 ∷ Sign 123 ∷ Protocol m.protocol ∷ Sign 44
     ∷ Numeral m.ceiling ∷ Sign 125 ∷ Sign 41 ∷ Sign 59 ∷ []
+form (Pool p) =
+    object (codes "CRE_MPF") p.id p.attributes
+    (Numeral p.count ∷ Sign 44 ∷ Numeral p.size ∷ Sign 44 ∷ StackValue p.area ∷ [])
+form (Mailbox m) =
+    Exactly (codes "CRE_MBX") ∷ Sign 40 ∷ Numeral m.id ∷ Sign 44 ∷ Sign 123 ∷ Attributes named.Mailbox m.attributes
+    ∷ Sign 44 ∷ Numeral m.priorities ∷ Sign 44 ∷ Exactly (codes "NULL") ∷ Sign 125 ∷ Sign 41 ∷ Sign 59 ∷ []
 form (Handler h) = object (codes "DEF_INH") h.line h.attributes (Value h.address ∷ [])
 
 -- what stands before all statements where the profile is asked for
@@ -144,6 +158,13 @@ spin_lock_said s = record { id = s.id }
 abbrev pub mutex_said : MutexStatement → MutexConfig
 mutex_said m = record { id = m.id; protocol = meant_protocol m.protocol; ceiling = m.ceiling }
 
+abbrev pub pool_said : PoolStatement → PoolConfig
+pool_said p =
+    record { id = p.id; attributes = record { 0 = p.attributes }; count = p.count; size = p.size; area = p.area }
+
+abbrev pub mailbox_said : MailboxStatement → MailboxConfig
+mailbox_said m = record { id = m.id; attributes = record { 0 = m.attributes }; priorities = m.priorities }
+
 abbrev pub handler_said : ℕ → HandlerStatement → HandlerConfig
 handler_said processor h = record { line = h.line; processor = processor; address = h.address }
 
@@ -159,6 +180,8 @@ tasks_of class (Flag f ∷ ss) = tasks_of class ss
 tasks_of class (Queue q ∷ ss) = tasks_of class ss
 tasks_of class (SpinLock s ∷ ss) = tasks_of class ss
 tasks_of class (Mutex s ∷ ss) = tasks_of class ss
+tasks_of class (Pool p ∷ ss) = tasks_of class ss
+tasks_of class (Mailbox m ∷ ss) = tasks_of class ss
 tasks_of class (Handler h ∷ ss) = tasks_of class ss
 
 abbrev pub semaphores_of : List Statement → List SemaphoreConfig
@@ -172,6 +195,8 @@ semaphores_of (Flag f ∷ ss) = semaphores_of ss
 semaphores_of (Queue q ∷ ss) = semaphores_of ss
 semaphores_of (SpinLock s ∷ ss) = semaphores_of ss
 semaphores_of (Mutex s ∷ ss) = semaphores_of ss
+semaphores_of (Pool p ∷ ss) = semaphores_of ss
+semaphores_of (Mailbox m ∷ ss) = semaphores_of ss
 semaphores_of (Handler h ∷ ss) = semaphores_of ss
 
 abbrev pub flags_of : List Statement → List FlagConfig
@@ -185,6 +210,8 @@ flags_of (Flag f ∷ ss) = flag_said f ∷ flags_of ss
 flags_of (Queue q ∷ ss) = flags_of ss
 flags_of (SpinLock s ∷ ss) = flags_of ss
 flags_of (Mutex s ∷ ss) = flags_of ss
+flags_of (Pool p ∷ ss) = flags_of ss
+flags_of (Mailbox m ∷ ss) = flags_of ss
 flags_of (Handler h ∷ ss) = flags_of ss
 
 abbrev pub queues_of : List Statement → List QueueConfig
@@ -198,6 +225,8 @@ queues_of (Flag f ∷ ss) = queues_of ss
 queues_of (Queue q ∷ ss) = queue_said q ∷ queues_of ss
 queues_of (SpinLock s ∷ ss) = queues_of ss
 queues_of (Mutex s ∷ ss) = queues_of ss
+queues_of (Pool p ∷ ss) = queues_of ss
+queues_of (Mailbox m ∷ ss) = queues_of ss
 queues_of (Handler h ∷ ss) = queues_of ss
 
 abbrev pub spin_locks_of : List Statement → List SpinLockConfig
@@ -211,6 +240,8 @@ spin_locks_of (Flag f ∷ ss) = spin_locks_of ss
 spin_locks_of (Queue q ∷ ss) = spin_locks_of ss
 spin_locks_of (SpinLock s ∷ ss) = spin_lock_said s ∷ spin_locks_of ss
 spin_locks_of (Mutex s ∷ ss) = spin_locks_of ss
+spin_locks_of (Pool p ∷ ss) = spin_locks_of ss
+spin_locks_of (Mailbox m ∷ ss) = spin_locks_of ss
 spin_locks_of (Handler h ∷ ss) = spin_locks_of ss
 
 abbrev pub mutexes_of : List Statement → List MutexConfig
@@ -224,7 +255,39 @@ mutexes_of (Flag f ∷ ss) = mutexes_of ss
 mutexes_of (Queue q ∷ ss) = mutexes_of ss
 mutexes_of (SpinLock s ∷ ss) = mutexes_of ss
 mutexes_of (Mutex s ∷ ss) = mutex_said s ∷ mutexes_of ss
+mutexes_of (Pool p ∷ ss) = mutexes_of ss
+mutexes_of (Mailbox m ∷ ss) = mutexes_of ss
 mutexes_of (Handler h ∷ ss) = mutexes_of ss
+
+abbrev pub pools_of : List Statement → List PoolConfig
+pools_of [] = []
+pools_of (Board processors ram ∷ ss) = pools_of ss
+pools_of (Class n ∷ ss) = pools_of ss
+pools_of (ClassEnd ∷ ss) = pools_of ss
+pools_of (Task t ∷ ss) = pools_of ss
+pools_of (Semaphore s ∷ ss) = pools_of ss
+pools_of (Flag f ∷ ss) = pools_of ss
+pools_of (Queue q ∷ ss) = pools_of ss
+pools_of (SpinLock s ∷ ss) = pools_of ss
+pools_of (Mutex s ∷ ss) = pools_of ss
+pools_of (Pool p ∷ ss) = pool_said p ∷ pools_of ss
+pools_of (Mailbox m ∷ ss) = pools_of ss
+pools_of (Handler h ∷ ss) = pools_of ss
+
+abbrev pub mailboxes_of : List Statement → List MailboxConfig
+mailboxes_of [] = []
+mailboxes_of (Board processors ram ∷ ss) = mailboxes_of ss
+mailboxes_of (Class n ∷ ss) = mailboxes_of ss
+mailboxes_of (ClassEnd ∷ ss) = mailboxes_of ss
+mailboxes_of (Task t ∷ ss) = mailboxes_of ss
+mailboxes_of (Semaphore s ∷ ss) = mailboxes_of ss
+mailboxes_of (Flag f ∷ ss) = mailboxes_of ss
+mailboxes_of (Queue q ∷ ss) = mailboxes_of ss
+mailboxes_of (SpinLock s ∷ ss) = mailboxes_of ss
+mailboxes_of (Mutex s ∷ ss) = mailboxes_of ss
+mailboxes_of (Pool p ∷ ss) = mailboxes_of ss
+mailboxes_of (Mailbox m ∷ ss) = mailbox_said m ∷ mailboxes_of ss
+mailboxes_of (Handler h ∷ ss) = mailboxes_of ss
 
 abbrev pub handlers_of : Option ℕ → List Statement → List HandlerConfig
 handlers_of class [] = []
@@ -237,6 +300,8 @@ handlers_of class (Flag f ∷ ss) = handlers_of class ss
 handlers_of class (Queue q ∷ ss) = handlers_of class ss
 handlers_of class (SpinLock s ∷ ss) = handlers_of class ss
 handlers_of class (Mutex s ∷ ss) = handlers_of class ss
+handlers_of class (Pool p ∷ ss) = handlers_of class ss
+handlers_of class (Mailbox m ∷ ss) = handlers_of class ss
 handlers_of class (Handler h ∷ ss) = handler_said (processor_of class) h ∷ handlers_of class ss
 
 -- the configuration of a board and the statements after it, whatever their values
@@ -252,6 +317,8 @@ said standard processors ram ss =
       queues = queues_of ss;
       spin_locks = spin_locks_of ss;
       mutexes = mutexes_of ss;
+      pools = pools_of ss;
+      mailboxes = mailboxes_of ss;
       handlers = handlers_of None ss;
     }
 
@@ -265,7 +332,7 @@ IsInside (Some n) = Unit {0}
 
 -- Statements after BOARD, of which the first stands in this class: each class names a processor of the board and is
 -- closed again, no class is in a class, BOARD does not come again, a spin lock has no attribute bits, a handler none
--- but the lowest, and a mutex one of four, in the profile alone.
+-- but the lowest, and a mutex one of four; mutexes, memory pools and mailboxes stand in the profile alone.
 -- (The other limits are those of the configuration.)
 abbrev pub AreNested : Bool → ℕ → Option ℕ → List Statement → Type 0
 AreNested standard processors class [] = IsOutside class
@@ -280,6 +347,8 @@ AreNested standard processors class (Queue q ∷ ss) = AreNested standard proces
 AreNested standard processors class (SpinLock s ∷ ss) = (s.attributes ≡ 0) × AreNested standard processors class ss
 AreNested standard processors class (Mutex m ∷ ss) =
     (standard ≡ true) × (m.protocol ≤ 3) × AreNested standard processors class ss
+AreNested standard processors class (Pool p ∷ ss) = (standard ≡ true) × AreNested standard processors class ss
+AreNested standard processors class (Mailbox m ∷ ss) = (standard ≡ true) × AreNested standard processors class ss
 AreNested standard processors class (Handler h ∷ ss) = (h.attributes ≤ 1) × AreNested standard processors class ss
 
 -- Statements that are valid: well nested, and what they say is a configuration.

@@ -20,6 +20,8 @@ use Rattle.brd_config.specs.declared.objects.FlagConfig.{FlagConfig}
 use Rattle.brd_config.specs.declared.objects.QueueConfig.{QueueConfig}
 use Rattle.brd_config.specs.declared.objects.SpinLockConfig.{SpinLockConfig}
 use Rattle.brd_config.specs.declared.objects.MutexConfig.{MutexConfig}
+use Rattle.brd_config.specs.declared.objects.PoolConfig.{PoolConfig}
+use Rattle.brd_config.specs.declared.objects.MailboxConfig.{MailboxConfig}
 use Rattle.brd_config.specs.declared.objects.HandlerConfig.{HandlerConfig}
 use Rattle.brd_config.specs.declared.statement.TaskStatement.{TaskStatement}
 use Rattle.brd_config.specs.declared.statement.SemaphoreStatement.{SemaphoreStatement}
@@ -27,10 +29,13 @@ use Rattle.brd_config.specs.declared.statement.FlagStatement.{FlagStatement}
 use Rattle.brd_config.specs.declared.statement.QueueStatement.{QueueStatement}
 use Rattle.brd_config.specs.declared.statement.SpinLockStatement.{SpinLockStatement}
 use Rattle.brd_config.specs.declared.statement.MutexStatement.{MutexStatement}
+use Rattle.brd_config.specs.declared.statement.PoolStatement.{PoolStatement}
+use Rattle.brd_config.specs.declared.statement.MailboxStatement.{MailboxStatement}
 use Rattle.brd_config.specs.declared.statement.HandlerStatement.{HandlerStatement}
 use Rattle.brd_config.specs.declared.statement.Statement.{Statement}
 use Rattle.brd_config.specs.declared.statement.Statement.TheVariants.{Board, Class, ClassEnd, Task, Semaphore, Flag}
-use Rattle.brd_config.specs.declared.statement.Statement.TheVariants.{Queue, SpinLock, Mutex, Handler}
+use Rattle.brd_config.specs.declared.statement.Statement.TheVariants.{Queue, SpinLock, Mutex, Pool, Mailbox}
+use Rattle.brd_config.specs.declared.statement.Statement.TheVariants.{Handler}
 use Rattle.brd_config.specs.Statements.{board_at, statement_at}
 use Rattle.brd_config.specs.declared.objects.Protocol.{Protocol}
 use Rattle.brd_config.specs.declared.objects.Protocol.TheVariants as protocol
@@ -136,6 +141,24 @@ mutex_of line mutexes m = do
   ceiling ← within (least_ceiling (meant_protocol m.protocol)) 16 (BadPriority line) m.ceiling
   Ok (record { id = id; protocol = meant_protocol number; ceiling = ceiling })
 
+-- A memory pool on a board with this much RAM.
+unfoldable pub pool_of : ℕ → ℕ → List PoolConfig → PoolStatement → Result PoolConfig ConfigFault
+pool_of line ram pools p = do
+  id ← within 1 255 (BadId line) p.id
+  new ← refused (list_any (λ other. other.id == p.id) pools) (Duplicate line)
+  attributes ← only_bits 1 (BadAttribute line) p.attributes
+  count ← within 1 256 (BadCount line) p.count
+  size ← within 1 ram (BadCount line) p.size
+  Ok (record { id = id; attributes = record { 0 = attributes }; count = count; size = size; area = p.area })
+
+unfoldable pub mailbox_of : ℕ → List MailboxConfig → MailboxStatement → Result MailboxConfig ConfigFault
+mailbox_of line mailboxes m = do
+  id ← within 1 255 (BadId line) m.id
+  new ← refused (list_any (λ other. other.id == m.id) mailboxes) (Duplicate line)
+  attributes ← only_bits 3 (BadAttribute line) m.attributes
+  priorities ← within 1 16 (BadPriority line) m.priorities
+  Ok (record { id = id; attributes = record { 0 = attributes }; priorities = priorities })
+
 -- A handler on this processor. Lines are the board's, so each has one handler.
 unfoldable pub handler_of : ℕ → List HandlerConfig → ℕ → HandlerStatement → Result HandlerConfig ConfigFault
 handler_of line handlers processor h = do
@@ -159,6 +182,8 @@ board_of standard line processors ram = do
     queues = [];
     spin_locks = [];
     mutexes = [];
+    pools = [];
+    mailboxes = [];
     handlers = [];
   })
 
@@ -189,6 +214,12 @@ added line s (SpinLock x) = do
 added line s (Mutex x) = do
   mutex ← mutex_of line s.config.mutexes x
   Ok (record s { config = record s.config { mutexes = s.config.mutexes ++ mutex ∷ [] } })
+added line s (Pool x) = do
+  pool ← pool_of line s.config.ram s.config.pools x
+  Ok (record s { config = record s.config { pools = s.config.pools ++ pool ∷ [] } })
+added line s (Mailbox x) = do
+  mailbox ← mailbox_of line s.config.mailboxes x
+  Ok (record s { config = record s.config { mailboxes = s.config.mailboxes ++ mailbox ∷ [] } })
 added line s (Handler x) = do
   handler ← handler_of line s.config.handlers (processor_of s.class) x
   Ok (record s { config = record s.config { handlers = s.config.handlers ++ handler ∷ [] } })

@@ -11,6 +11,8 @@ use Rattle.brd_text.specs.Faults.{◌>>=◌, or_fault}
 use Rattle.brd_text.specs.Turns.{Flow, flow_of, repeated}
 use Rattle.brd_config.specs.declared.fault.ConfigFault.{ConfigFault}
 use Rattle.brd_config.specs.declared.fault.ConfigFault.TheVariants.{NoMemory, Syntax}
+use Rattle.brd_config.specs.declared.statement.AttributeNames.{AttributeNames}
+use Rattle.brd_config.specs.declared.statement.AttributeNames.TheVariants as named
 use Rattle.brd_config.specs.declared.objects.Operand.{Operand}
 use Rattle.brd_config.specs.declared.objects.Operand.TheVariants.{Number, Name}
 use Rattle.brd_config.specs.declared.objects.Stack.{Stack}
@@ -44,8 +46,25 @@ abbrev pub named_or_number : Option ℕ → List ℕ → Option ℕ
 named_or_number (Some bits) run = Some bits
 named_or_number None run = number_of run
 
-unfoldable pub attribute_of : List ℕ → Option ℕ
-attribute_of run = named_or_number (attribute_named run) run
+-- the attribute names that a mailbox has, each with its bits
+abbrev pub mailbox_attribute_names : List (List ℕ × ℕ)
+mailbox_attribute_names =
+    (codes "TA_NULL", 0) ∷
+    (codes "TA_TFIFO", 0) ∷
+    (codes "TA_TPRI", 1) ∷
+    (codes "TA_MFIFO", 0) ∷
+    (codes "TA_MPRI", 2) ∷ []
+
+unfoldable pub mailbox_attribute_named : List ℕ → Option ℕ
+mailbox_attribute_named run = named_in mailbox_attribute_names run
+
+-- what a name stands for, among these
+abbrev pub named_among : AttributeNames → List ℕ → Option ℕ
+named_among named.Common run = attribute_named run
+named_among named.Mailbox run = mailbox_attribute_named run
+
+unfoldable pub attribute_of : AttributeNames → List ℕ → Option ℕ
+attribute_of names run = named_or_number (named_among names run) run
 
 -- the attributes of mutexes, of which each has one
 abbrev pub protocol_names : List (List ℕ × ℕ)
@@ -101,10 +120,10 @@ expect_mark mark End line rest = Err (Syntax line)
 unfoldable pub mark_at : ℕ → Text → Result Text ConfigFault
 mark_at mark t = expect_mark mark (first t).token (first t).line (others t)
 
-unfoldable pub attribute_at : Text → Result (ℕ × Text) ConfigFault
-attribute_at t = do
+unfoldable pub attribute_at : AttributeNames → Text → Result (ℕ × Text) ConfigFault
+attribute_at names t = do
   run ← run_of (first t).token (first t).line
-  bits ← or_fault (Syntax (first t).line) (attribute_of run)
+  bits ← or_fault (Syntax (first t).line) (attribute_of names run)
   Ok (bits, others t)
 
 abbrev pub expect_joint : ℕ → Token → ℕ → Text → Result (Bool × Text) ConfigFault
@@ -119,15 +138,15 @@ unfoldable pub joint_at : ℕ → Text → Result (Bool × Text) ConfigFault
 joint_at end t = expect_joint end (first t).token (first t).line (others t)
 
 -- one more attribute, its bits joined to those before it
-unfoldable pub attribute_step : ℕ → ℕ × Text → Result (Flow (ℕ × Text) (ℕ × Text)) ConfigFault
-attribute_step end s = do
-  a ← attribute_at s.1
+unfoldable pub attribute_step : AttributeNames → ℕ → ℕ × Text → Result (Flow (ℕ × Text) (ℕ × Text)) ConfigFault
+attribute_step names end s = do
+  a ← attribute_at names s.1
   joint ← joint_at end a.1
   Ok (flow_of joint.0 (bit_or s.0 a.0, joint.1) (bit_or s.0 a.0, joint.1))
 
 -- attributes up to the mark that ends them
-unfoldable pub attributes_at : ℕ → Text → Result (ℕ × Text) ConfigFault
-attributes_at end t = repeated NoMemory (attribute_step end) (suc (length t.tokens)) (0, t)
+unfoldable pub attributes_at : AttributeNames → ℕ → Text → Result (ℕ × Text) ConfigFault
+attributes_at names end t = repeated NoMemory (attribute_step names end) (suc (length t.tokens)) (0, t)
 
 unfoldable pub operand_at : Text → Result (Operand × Text) ConfigFault
 operand_at t = do
@@ -153,6 +172,12 @@ unfoldable pub area_at : Text → Result Text ConfigFault
 area_at t = do
   run ← run_of (first t).token (first t).line
   if is_area run then Ok (others t) else Err (Syntax (first t).line)
+
+-- NULL alone
+unfoldable pub null_at : Text → Result Text ConfigFault
+null_at t = do
+  run ← run_of (first t).token (first t).line
+  if is_null run then Ok (others t) else Err (Syntax (first t).line)
 
 -- TCL_ and a decimal number
 unfoldable pub class_number_at : Text → Result (ℕ × Text) ConfigFault
@@ -184,14 +209,14 @@ listed_operand_at t = do
   listed ← mark_at 44 operand.1
   Ok (operand.0, listed)
 
--- `( id , { attributes` and the mark that ends them, a comma, or the brace where nothing follows: the ID and the
--- attributes
-unfoldable pub head_at : ℕ → Text → Result (ℕ × ℕ × Text) ConfigFault
-head_at end t = do
+-- `( id , { attributes`, of these names, and the mark that ends them, a comma, or the brace where nothing follows: the
+-- ID and the attributes
+unfoldable pub head_at : AttributeNames → ℕ → Text → Result (ℕ × ℕ × Text) ConfigFault
+head_at names end t = do
   opened ← mark_at 40 t
   id ← listed_number_at opened
   inner ← mark_at 123 id.1
-  attributes ← attributes_at end inner
+  attributes ← attributes_at names end inner
   Ok (id.0, attributes.0, attributes.1)
 
 -- `} ) ;`

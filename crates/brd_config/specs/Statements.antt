@@ -6,14 +6,16 @@ use Rattle.brd_text.specs.Tokens.Token.{Run, Mark, Unclosed, End}
 use Rattle.brd_text.specs.Faults.{◌>>=◌, or_fault}
 use Rattle.brd_config.specs.declared.fault.ConfigFault.{ConfigFault}
 use Rattle.brd_config.specs.declared.fault.ConfigFault.TheVariants.{Syntax}
+use Rattle.brd_config.specs.declared.statement.AttributeNames.TheVariants as named
 use Rattle.brd_config.specs.declared.statement.Keyword.{Keyword}
 use Rattle.brd_config.specs.declared.statement.Keyword.TheVariants as keywords
 use Rattle.brd_config.specs.declared.statement.Statement.{Statement}
 use Rattle.brd_config.specs.declared.statement.Statement.TheVariants.{Board, Class, ClassEnd, Task, Semaphore, Flag}
-use Rattle.brd_config.specs.declared.statement.Statement.TheVariants.{Queue, SpinLock, Mutex, Handler}
+use Rattle.brd_config.specs.declared.statement.Statement.TheVariants.{Queue, SpinLock, Mutex, Pool, Mailbox}
+use Rattle.brd_config.specs.declared.statement.Statement.TheVariants.{Handler}
 use Rattle.brd_config.specs.declared.objects.Stack.{Stack}
 use Rattle.brd_config.specs.Reading.{named_in, number_at, listed_number_at, listed_operand_at, mark_at, operand_at}
-use Rattle.brd_config.specs.Reading.{stack_at, area_at, class_number_at, protocol_at, head_at, tail_at}
+use Rattle.brd_config.specs.Reading.{stack_at, area_at, null_at, class_number_at, protocol_at, head_at, tail_at}
 
 abbrev pub keyword_names : List (List ℕ × Keyword)
 keyword_names =
@@ -25,6 +27,8 @@ keyword_names =
     (codes "CRE_DTQ", keywords.Queue) ∷
     (codes "CRE_SPN", keywords.SpinLock) ∷
     (codes "CRE_MTX", keywords.Mutex) ∷
+    (codes "CRE_MPF", keywords.Pool) ∷
+    (codes "CRE_MBX", keywords.Mailbox) ∷
     (codes "DEF_INH", keywords.Handler) ∷ []
 
 unfoldable pub keyword_of : List ℕ → Option Keyword
@@ -61,7 +65,7 @@ task_tail_at t = do
 -- CRE_TSK(tskid, {tskatr, exinf, task, itskpri, stksz, stk});
 unfoldable pub task_at : Text → Result (Statement × Text) ConfigFault
 task_at t = do
-  head ← head_at 44 t
+  head ← head_at named.Common 44 t
   exinf ← listed_operand_at head.2
   address ← listed_operand_at exinf.1
   rest ← task_tail_at address.1
@@ -82,7 +86,7 @@ task_at t = do
 -- CRE_SEM(semid, {sematr, isemcnt, maxsem});
 unfoldable pub semaphore_at : Text → Result (Statement × Text) ConfigFault
 semaphore_at t = do
-  head ← head_at 44 t
+  head ← head_at named.Common 44 t
   initial ← listed_number_at head.2
   maximum ← number_at initial.1
   ended ← tail_at maximum.1
@@ -91,7 +95,7 @@ semaphore_at t = do
 -- CRE_FLG(flgid, {flgatr, iflgptn});
 unfoldable pub flag_at : Text → Result (Statement × Text) ConfigFault
 flag_at t = do
-  head ← head_at 44 t
+  head ← head_at named.Common 44 t
   pattern ← number_at head.2
   ended ← tail_at pattern.1
   Ok (Flag (record { id = head.0; attributes = head.1; pattern = pattern.0 }), ended)
@@ -99,7 +103,7 @@ flag_at t = do
 -- CRE_DTQ(dtqid, {dtqatr, dtqcnt, dtq});
 unfoldable pub queue_at : Text → Result (Statement × Text) ConfigFault
 queue_at t = do
-  head ← head_at 44 t
+  head ← head_at named.Common 44 t
   capacity ← listed_number_at head.2
   area ← area_at capacity.1
   ended ← tail_at area
@@ -108,7 +112,7 @@ queue_at t = do
 -- CRE_SPN(spnid, {spnatr});
 unfoldable pub spin_lock_at : Text → Result (Statement × Text) ConfigFault
 spin_lock_at t = do
-  head ← head_at 125 t
+  head ← head_at named.Common 125 t
   closed ← mark_at 41 head.2
   ended ← mark_at 59 closed
   Ok (SpinLock (record { id = head.0; attributes = head.1 }), ended)
@@ -125,15 +129,38 @@ mutex_at t = do
   ended ← tail_at ceiling.1
   Ok (Mutex (record { id = id.0; protocol = protocol.0; ceiling = ceiling.0 }), ended)
 
+-- CRE_MPF(mpfid, {mpfatr, blkcnt, blksz, mpf});
+unfoldable pub pool_at : Text → Result (Statement × Text) ConfigFault
+pool_at t = do
+  head ← head_at named.Common 44 t
+  count ← listed_number_at head.2
+  size ← listed_number_at count.1
+  area ← stack_at size.1
+  ended ← tail_at area.1
+  Ok (
+    Pool (record { id = head.0; attributes = head.1; count = count.0; size = size.0; area = area.0 }),
+    ended,
+  )
+
+-- CRE_MBX(mbxid, {mbxatr, maxmpri, mprihd}); the queues of messages are the kernel's, so mprihd is NULL.
+unfoldable pub mailbox_at : Text → Result (Statement × Text) ConfigFault
+mailbox_at t = do
+  head ← head_at named.Mailbox 44 t
+  priorities ← listed_number_at head.2
+  null ← null_at priorities.1
+  ended ← tail_at null
+  Ok (Mailbox (record { id = head.0; attributes = head.1; priorities = priorities.0 }), ended)
+
 -- DEF_INH(inhno, {inhatr, inthdr});
 unfoldable pub handler_at : Text → Result (Statement × Text) ConfigFault
 handler_at t = do
-  head ← head_at 44 t
+  head ← head_at named.Common 44 t
   address ← operand_at head.2
   ended ← tail_at address.1
   Ok (Handler (record { line = head.0; attributes = head.1; address = address.0 }), ended)
 
--- What follows a keyword on this line. A class has no class in it, and without the profile there are no mutexes.
+-- What follows a keyword on this line. A class has no class in it, and without the profile there are no mutexes, no
+-- memory pools and no mailboxes.
 unfoldable pub behind_keyword : Bool → Bool → ℕ → Keyword → Text → Result (Statement × Text) ConfigFault
 behind_keyword standard in_class line keywords.Board t = do
   board ← board_at t
@@ -145,6 +172,8 @@ behind_keyword standard in_class line keywords.Flag t = flag_at t
 behind_keyword standard in_class line keywords.Queue t = queue_at t
 behind_keyword standard in_class line keywords.SpinLock t = spin_lock_at t
 behind_keyword standard in_class line keywords.Mutex t = if standard then mutex_at t else Err (Syntax line)
+behind_keyword standard in_class line keywords.Pool t = if standard then pool_at t else Err (Syntax line)
+behind_keyword standard in_class line keywords.Mailbox t = if standard then mailbox_at t else Err (Syntax line)
 behind_keyword standard in_class line keywords.Handler t = handler_at t
 
 -- What the first token of a statement begins, before rest. A closing brace ends a class.

@@ -16,6 +16,8 @@ view c =
       queues = c.queues;
       spin_locks = c.spin_locks;
       mutexes = c.mutexes;
+      pools = c.pools;
+      mailboxes = c.mailboxes;
       handlers = c.handlers;
     }
 
@@ -31,6 +33,8 @@ drafted d =
       queues = d.queues;
       spin_locks = d.spin_locks;
       mutexes = d.mutexes;
+      pools = d.pools;
+      mailboxes = d.mailboxes;
       handlers = d.handlers;
     }
 

@@ -141,3 +141,71 @@ impl Flags for QueueAttributes {
         QueueAttributes(bits)
     }
 }
+
+/// Attributes of a fixed memory pool.
+#[derive(Clone, Copy, PartialEq, Eq)]
+pub struct PoolAttributes(u32);
+
+bitflag_items! {
+    impl PoolAttributes: u32 {
+        /// Tasks wait by priority, not by arrival.
+        const TA_TPRI = 1;
+    }
+}
+
+impl Flags for PoolAttributes {
+    type Bits = u32;
+
+    ghost exact = { ⊤ };
+
+    ghost table = { (codes "TA_TPRI", 1) ∷ [] };
+
+    ghost set_of = { λ a. a.0 };
+
+    fn flags<'a>() -> &'a [Flag<PoolAttributes>] {
+        PoolAttributes::FLAGS
+    }
+
+    fn bits(&self) -> u32 {
+        self.0
+    }
+
+    fn from_bits_retain(bits: u32) -> PoolAttributes {
+        PoolAttributes(bits)
+    }
+}
+
+/// Attributes of a mailbox.
+#[derive(Clone, Copy, PartialEq, Eq)]
+pub struct MailboxAttributes(u32);
+
+bitflag_items! {
+    impl MailboxAttributes: u32 {
+        /// Tasks wait by priority, not by arrival.
+        const TA_TPRI = 1;
+        /// Messages are received by priority, not by arrival.
+        const TA_MPRI = 2;
+    }
+}
+
+impl Flags for MailboxAttributes {
+    type Bits = u32;
+
+    ghost exact = { ⊤ };
+
+    ghost table = { (codes "TA_TPRI", 1) ∷ (codes "TA_MPRI", 2) ∷ [] };
+
+    ghost set_of = { λ a. a.0 };
+
+    fn flags<'a>() -> &'a [Flag<MailboxAttributes>] {
+        MailboxAttributes::FLAGS
+    }
+
+    fn bits(&self) -> u32 {
+        self.0
+    }
+
+    fn from_bits_retain(bits: u32) -> MailboxAttributes {
+        MailboxAttributes(bits)
+    }
+}

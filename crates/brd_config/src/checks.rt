@@ -6,15 +6,18 @@ ghost use Rattle.brd_config.specs.Faults.{Gives};
 ghost use Rattle.brd_config.specs.Configuration as configuration;
 ghost use Rattle.brd_config.specs.Meaning as meaning;
 
-use crate::attributes::{FlagAttributes, QueueAttributes, SemaphoreAttributes, TaskAttributes};
+use crate::attributes::{
+    FlagAttributes, MailboxAttributes, PoolAttributes, QueueAttributes, SemaphoreAttributes,
+    TaskAttributes,
+};
 use crate::fault::ConfigFault;
 use crate::objects::{
-    FlagConfig, HandlerConfig, MutexConfig, Protocol, QueueConfig, SemaphoreConfig, SpinLockConfig,
-    TaskConfig,
+    FlagConfig, HandlerConfig, MailboxConfig, MutexConfig, PoolConfig, Protocol, QueueConfig,
+    SemaphoreConfig, SpinLockConfig, TaskConfig,
 };
 use crate::statement::{
-    FlagStatement, HandlerStatement, MutexStatement, QueueStatement, SemaphoreStatement,
-    SpinLockStatement, TaskStatement,
+    FlagStatement, HandlerStatement, MailboxStatement, MutexStatement, PoolStatement,
+    QueueStatement, SemaphoreStatement, SpinLockStatement, TaskStatement,
 };
 use bitflags::Flags;
 
@@ -87,6 +90,20 @@ fn has_mutex(mutexes: &[MutexConfig], id: u32) -> bool
     ensures { result ≡ list_any (λ other. other.id == id) mutexes.now }
 {
     mutexes.iter().any(|other| other.id as u32 == id)
+}
+
+/// Whether one of the memory pools has this ID.
+fn has_pool(pools: &[PoolConfig], id: u32) -> bool
+    ensures { result ≡ list_any (λ other. other.id == id) pools.now }
+{
+    pools.iter().any(|other| other.id as u32 == id)
+}
+
+/// Whether one of the mailboxes has this ID.
+fn has_mailbox(mailboxes: &[MailboxConfig], id: u32) -> bool
+    ensures { result ≡ list_any (λ other. other.id == id) mailboxes.now }
+{
+    mailboxes.iter().any(|other| other.id as u32 == id)
 }
 
 /// Whether one of the handlers has this line.
@@ -277,6 +294,60 @@ pub(crate) fn mutex(
         id: id as u16,
         protocol: meant_protocol(number),
         ceiling: ceiling as u8,
+    })
+}
+
+/// The memory pool of a statement that begins on this line, next to the pools that are defined, on a board with this
+/// much RAM.
+#[tactic(auto, unfolding(crate::specs::Meaning::pool_of))]
+pub(crate) fn pool(
+    line: usize,
+    ram: u32,
+    pools: &[PoolConfig],
+    statement: PoolStatement,
+) -> Result<PoolConfig, ConfigFault>
+    ensures { Gives (λ p. p) result (meaning.pool_of line ram pools.now statement) }
+{
+    let id = within(statement.id, 1, 255, ConfigFault::BadId { line })?;
+    if has_pool(pools, statement.id) {
+        return Err(ConfigFault::Duplicate { line });
+    }
+    let attributes = only_bits(statement.attributes, 1, ConfigFault::BadAttribute { line })?;
+    let count = within(statement.count, 1, 256, ConfigFault::BadCount { line })?;
+    let size = within(statement.size, 1, ram, ConfigFault::BadCount { line })?;
+    Ok(PoolConfig {
+        id: id as u16,
+        attributes: PoolAttributes::from_bits_retain(attributes),
+        count: count as u16,
+        size,
+        area: statement.area,
+    })
+}
+
+/// The mailbox of a statement that begins on this line, next to the mailboxes that are defined.
+#[tactic(auto, unfolding(crate::specs::Meaning::mailbox_of))]
+pub(crate) fn mailbox(
+    line: usize,
+    mailboxes: &[MailboxConfig],
+    statement: MailboxStatement,
+) -> Result<MailboxConfig, ConfigFault>
+    ensures { Gives (λ m. m) result (meaning.mailbox_of line mailboxes.now statement) }
+{
+    let id = within(statement.id, 1, 255, ConfigFault::BadId { line })?;
+    if has_mailbox(mailboxes, statement.id) {
+        return Err(ConfigFault::Duplicate { line });
+    }
+    let attributes = only_bits(statement.attributes, 3, ConfigFault::BadAttribute { line })?;
+    let priorities = within(
+        statement.priorities,
+        1,
+        16,
+        ConfigFault::BadPriority { line },
+    )?;
+    Ok(MailboxConfig {
+        id: id as u16,
+        attributes: MailboxAttributes::from_bits_retain(attributes),
+        priorities: priorities as u8,
     })
 }
 

@@ -3,8 +3,8 @@
 ghost use Rattle.brd_config.specs.Configuration.{IsConfiguration};
 
 use crate::objects::{
-    FlagConfig, HandlerConfig, MutexConfig, QueueConfig, SemaphoreConfig, SpinLockConfig,
-    TaskConfig,
+    FlagConfig, HandlerConfig, MailboxConfig, MutexConfig, PoolConfig, QueueConfig,
+    SemaphoreConfig, SpinLockConfig, TaskConfig,
 };
 use brd_base::List;
 
@@ -23,6 +23,8 @@ pub struct Config {
     pub queues: List<QueueConfig>,
     pub spin_locks: List<SpinLockConfig>,
     pub mutexes: List<MutexConfig>,
+    pub pools: List<PoolConfig>,
+    pub mailboxes: List<MailboxConfig>,
     pub handlers: List<HandlerConfig>,
     ghost valid: { IsConfiguration
         (record {
@@ -35,6 +37,8 @@ pub struct Config {
           queues = queues;
           spin_locks = spin_locks;
           mutexes = mutexes;
+          pools = pools;
+          mailboxes = mailboxes;
           handlers = handlers;
         }) },
 }
@@ -52,6 +56,8 @@ impl Drop for Config {
             queues: _,
             spin_locks: _,
             mutexes: _,
+            pools: _,
+            mailboxes: _,
             handlers: _,
         } = self;
     }

@@ -1,8 +1,8 @@
 //! What the statements so far have said.
 
 use crate::objects::{
-    FlagConfig, HandlerConfig, MutexConfig, QueueConfig, SemaphoreConfig, SpinLockConfig,
-    TaskConfig,
+    FlagConfig, HandlerConfig, MailboxConfig, MutexConfig, PoolConfig, QueueConfig,
+    SemaphoreConfig, SpinLockConfig, TaskConfig,
 };
 use brd_base::List;
 
@@ -18,6 +18,8 @@ pub struct Draft {
     pub queues: List<QueueConfig>,
     pub spin_locks: List<SpinLockConfig>,
     pub mutexes: List<MutexConfig>,
+    pub pools: List<PoolConfig>,
+    pub mailboxes: List<MailboxConfig>,
     pub handlers: List<HandlerConfig>,
     /// The processor of the class in which the next statement stands.
     pub class: Option<u8>,

@@ -13,16 +13,19 @@ mod reading;
 mod statement;
 mod statements;
 
-pub use attributes::{FlagAttributes, QueueAttributes, SemaphoreAttributes, TaskAttributes};
+pub use attributes::{
+    FlagAttributes, MailboxAttributes, PoolAttributes, QueueAttributes, SemaphoreAttributes,
+    TaskAttributes,
+};
 pub use brd_base::List;
 pub use config::Config;
 pub use draft::Draft;
 pub use fault::ConfigFault;
 pub use objects::{
-    FlagConfig, HandlerConfig, MutexConfig, Operand, Protocol, QueueConfig, SemaphoreConfig,
-    SpinLockConfig, Stack, TaskConfig,
+    FlagConfig, HandlerConfig, MailboxConfig, MutexConfig, Operand, PoolConfig, Protocol,
+    QueueConfig, SemaphoreConfig, SpinLockConfig, Stack, TaskConfig,
 };
 pub use parser::{open, parse, read_board, read_statement};
-pub use reading::{attribute_named, class_of, protocol_named};
+pub use reading::{attribute_named, class_of, mailbox_attribute_named, protocol_named};
 pub use statement::Keyword;
 pub use statements::{KEYWORDS, keyword_of};

@@ -1,6 +1,9 @@
 //! What a configuration says of each kernel object.
 
-use crate::attributes::{FlagAttributes, QueueAttributes, SemaphoreAttributes, TaskAttributes};
+use crate::attributes::{
+    FlagAttributes, MailboxAttributes, PoolAttributes, QueueAttributes, SemaphoreAttributes,
+    TaskAttributes,
+};
 use brd_base::List;
 
 /// A number, or the name of a symbol of the image, whose value it then is.
@@ -10,7 +13,7 @@ pub enum Operand {
     Name(List<u8>),
 }
 
-/// Where a task's stack lies.
+/// Where a task's stack lies, or the area of a memory pool.
 #[derive(Drop)]
 pub enum Stack {
     /// `NULL`: laid from the end of RAM downward.
@@ -98,6 +101,30 @@ pub struct MutexConfig {
     pub protocol: Protocol,
     /// Up to 16; with TA_CEILING from 1.
     pub ceiling: u8,
+}
+
+/// A fixed memory pool, as `CRE_MPF` says it.
+#[derive(Drop)]
+pub struct PoolConfig {
+    /// 1 to 255.
+    pub id: u16,
+    pub attributes: PoolAttributes,
+    /// How many blocks it has: 1 to 256.
+    pub count: u16,
+    /// How many bytes a block has at least: 1 to the size of RAM.
+    pub size: u32,
+    /// Where its blocks lie.
+    pub area: Stack,
+}
+
+/// A mailbox, as `CRE_MBX` says it.
+#[derive(Drop)]
+pub struct MailboxConfig {
+    /// 1 to 255.
+    pub id: u16,
+    pub attributes: MailboxAttributes,
+    /// How many priorities its messages have, 1 the highest: 1 to 16. Without TA_MPRI it has no effect.
+    pub priorities: u8,
 }
 
 /// An interrupt handler, as `DEF_INH` says it.

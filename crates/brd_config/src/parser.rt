@@ -45,6 +45,8 @@ fn begun(
         queues: List::new(alloc),
         spin_locks: List::new(alloc),
         mutexes: List::new(alloc),
+        pools: List::new(alloc),
+        mailboxes: List::new(alloc),
         handlers: List::new(alloc),
         class: None,
     })
@@ -90,6 +92,15 @@ fn add(draft: &mut Draft, line: usize, statement: Statement) -> Result<(), Confi
         Statement::Mutex(mutex) => {
             let mutex = checks::mutex(line, draft.mutexes.as_slice(), mutex)?;
             draft.mutexes.push(mutex)?;
+        }
+        Statement::Pool(pool) => {
+            let ram = draft.ram;
+            let pool = checks::pool(line, ram, draft.pools.as_slice(), pool)?;
+            draft.pools.push(pool)?;
+        }
+        Statement::Mailbox(mailbox) => {
+            let mailbox = checks::mailbox(line, draft.mailboxes.as_slice(), mailbox)?;
+            draft.mailboxes.push(mailbox)?;
         }
         Statement::Handler(handler) => {
             let processor = draft.class.unwrap_or(1);
@@ -230,6 +241,8 @@ fn whole(draft: Draft) -> Config
         queues: draft.queues,
         spin_locks: draft.spin_locks,
         mutexes: draft.mutexes,
+        pools: draft.pools,
+        mailboxes: draft.mailboxes,
         handlers: draft.handlers,
     }
 }

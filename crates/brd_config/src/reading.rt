@@ -8,6 +8,7 @@ ghost use Rattle.brd_config.specs.Reading as reads;
 
 use crate::fault::ConfigFault;
 use crate::objects::{Operand, Stack};
+use crate::statement::AttributeNames;
 use brd_base::List;
 use brd_text::{Scanner, Token};
 use std::alloc::Global;
@@ -45,12 +46,39 @@ pub fn attribute_named(run: &[u8]) -> Option<u32>
     find(ATTRIBUTES, run)
 }
 
-/// The bits of an attribute: a name or a number.
-#[tactic(auto, unfolding(crate::specs::Reading::attribute_of))]
-fn attribute_of(run: &[u8]) -> Option<u32>
-    ensures { result ≡ reads.attribute_of run.now }
+/// The bits of each attribute's name that a mailbox has.
+const MAILBOX_ATTRIBUTES: &[(&[u8], u32)] = &[
+    (b"TA_NULL", 0),
+    (b"TA_TFIFO", 0),
+    (b"TA_TPRI", 1),
+    (b"TA_MFIFO", 0),
+    (b"TA_MPRI", 2),
+];
+
+/// The bits of the name of a mailbox's attribute.
+#[tactic(auto, unfolding(crate::specs::Reading::mailbox_attribute_named))]
+pub fn mailbox_attribute_named(run: &[u8]) -> Option<u32>
+    ensures { result ≡ reads.mailbox_attribute_named run.now }
 {
-    match attribute_named(run) {
+    find(MAILBOX_ATTRIBUTES, run)
+}
+
+/// The bits of an attribute's name, of these names.
+fn named_among(names: AttributeNames, run: &[u8]) -> Option<u32>
+    ensures { result ≡ reads.named_among names run.now }
+{
+    match names {
+        AttributeNames::Common => attribute_named(run),
+        AttributeNames::Mailbox => mailbox_attribute_named(run),
+    }
+}
+
+/// The bits of an attribute: one of these names, or a number.
+#[tactic(auto, unfolding(crate::specs::Reading::attribute_of))]
+fn attribute_of(names: AttributeNames, run: &[u8]) -> Option<u32>
+    ensures { result ≡ reads.attribute_of names run.now }
+{
+    match named_among(names, run) {
         Some(bits) => Some(bits),
         None => brd_text::number(run),
     }
@@ -154,15 +182,15 @@ pub(crate) fn mark(tokens: &mut Scanner, mark: u8) -> Result<(), ConfigFault>
 
 /// Takes an attribute.
 #[tactic(auto, unfolding(crate::specs::Reading::attribute_at))]
-fn attribute(tokens: &mut Scanner) -> Result<u32, ConfigFault>
-    ensures read { Gives (λ bits. (bits, tokens.new)) result (reads.attribute_at tokens.old) }
+fn attribute(tokens: &mut Scanner, names: AttributeNames) -> Result<u32, ConfigFault>
+    ensures read { Gives (λ bits. (bits, tokens.new)) result (reads.attribute_at names tokens.old) }
     ensures shorter { OnOk result (length tokens.new.tokens < length tokens.old.tokens) }
 {
     let (token, line) = tokens.next();
     let Token::Run(run) = token else {
         return Err(ConfigFault::Syntax { line });
     };
-    match attribute_of(run) {
+    match attribute_of(names, run) {
         Some(bits) => Ok(bits),
         None => Err(ConfigFault::Syntax { line }),
     }
@@ -184,25 +212,34 @@ fn joint(tokens: &mut Scanner, end: u8) -> Result<bool, ConfigFault>
 
 /// Takes one more attribute, and joins its bits to these; says whether another one follows.
 #[tactic(auto, unfolding(crate::specs::Reading::attribute_step))]
-fn joined(tokens: &mut Scanner, end: u8, bits: u32) -> Result<(u32, bool), ConfigFault>
+fn joined(
+    tokens: &mut Scanner,
+    names: AttributeNames,
+    end: u8,
+    bits: u32,
+) -> Result<(u32, bool), ConfigFault>
     ensures read { Gives (λ x. flow_of x.1 (x.0, tokens.new) (x.0, tokens.new)) result
-        (reads.attribute_step end (bits, tokens.old)) }
+        (reads.attribute_step names end (bits, tokens.old)) }
     ensures shorter { OnOk result (length tokens.new.tokens < length tokens.old.tokens) }
 {
-    let attribute = attribute(tokens)?;
+    let attribute = attribute(tokens, names)?;
     let more = joint(tokens, end)?;
     Ok((bits | attribute, more))
 }
 
 /// Takes attributes and the mark that ends them.
 #[tactic(auto, unfolding(crate::specs::Reading::attributes_at))]
-pub(crate) fn attributes(tokens: &mut Scanner, end: u8) -> Result<u32, ConfigFault>
-    ensures read { Gives (λ bits. (bits, tokens.new)) result (reads.attributes_at end tokens.old) }
+pub(crate) fn attributes(
+    tokens: &mut Scanner,
+    names: AttributeNames,
+    end: u8,
+) -> Result<u32, ConfigFault>
+    ensures read { Gives (λ bits. (bits, tokens.new)) result (reads.attributes_at names end tokens.old) }
     ensures shorter { OnOk result (length tokens.new.tokens < length tokens.old.tokens) }
 {
     let mut bits = 0;
     'attributes: loop {
-        match joined(tokens, end, bits) {
+        match joined(tokens, names, end, bits) {
             Ok((all, more)) => {
                 bits = all;
                 if more {
@@ -255,6 +292,22 @@ pub(crate) fn area(tokens: &mut Scanner) -> Result<(), ConfigFault>
         return Err(ConfigFault::Syntax { line });
     };
     if is_null(run) || brd_text::number(run).is_some() {
+        return Ok(());
+    }
+    Err(ConfigFault::Syntax { line })
+}
+
+/// Takes `NULL`.
+#[tactic(auto, unfolding(crate::specs::Reading::null_at))]
+pub(crate) fn null(tokens: &mut Scanner) -> Result<(), ConfigFault>
+    ensures read { Gives (λ _. tokens.new) result (reads.null_at tokens.old) }
+    ensures shorter { OnOk result (length tokens.new.tokens < length tokens.old.tokens) }
+{
+    let (token, line) = tokens.next();
+    let Token::Run(run) = token else {
+        return Err(ConfigFault::Syntax { line });
+    };
+    if is_null(run) {
         return Ok(());
     }
     Err(ConfigFault::Syntax { line })
@@ -314,16 +367,20 @@ pub(crate) fn listed_operand(alloc: Global, tokens: &mut Scanner) -> Result<Oper
     Ok(operand)
 }
 
-/// Takes `( id , { attributes` and the mark that ends them: the ID and the attributes.
+/// Takes `( id , { attributes`, of these names, and the mark that ends them: the ID and the attributes.
 #[tactic(auto, unfolding(crate::specs::Reading::head_at))]
-pub(crate) fn head(tokens: &mut Scanner, end: u8) -> Result<(u32, u32), ConfigFault>
-    ensures read { Gives (λ x. (x.0, x.1, tokens.new)) result (reads.head_at end tokens.old) }
+pub(crate) fn head(
+    tokens: &mut Scanner,
+    names: AttributeNames,
+    end: u8,
+) -> Result<(u32, u32), ConfigFault>
+    ensures read { Gives (λ x. (x.0, x.1, tokens.new)) result (reads.head_at names end tokens.old) }
     ensures shorter { OnOk result (length tokens.new.tokens < length tokens.old.tokens) }
 {
     mark(tokens, b'(')?;
     let id = listed_number(tokens)?;
     mark(tokens, b'{')?;
-    let attributes = attributes(tokens, end)?;
+    let attributes = attributes(tokens, names, end)?;
     Ok((id, attributes))
 }
 

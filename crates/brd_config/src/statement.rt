@@ -16,6 +16,8 @@ pub(crate) enum Statement {
     Queue(QueueStatement),
     SpinLock(SpinLockStatement),
     Mutex(MutexStatement),
+    Pool(PoolStatement),
+    Mailbox(MailboxStatement),
     Handler(HandlerStatement),
 }
 
@@ -71,6 +73,24 @@ pub(crate) struct MutexStatement {
     pub(crate) ceiling: u32,
 }
 
+/// `CRE_MPF(id, {attributes, count, size, area});`
+#[derive(Drop)]
+pub(crate) struct PoolStatement {
+    pub(crate) id: u32,
+    pub(crate) attributes: u32,
+    pub(crate) count: u32,
+    pub(crate) size: u32,
+    pub(crate) area: Stack,
+}
+
+/// `CRE_MBX(id, {attributes, priorities, NULL});`
+#[derive(Drop)]
+pub(crate) struct MailboxStatement {
+    pub(crate) id: u32,
+    pub(crate) attributes: u32,
+    pub(crate) priorities: u32,
+}
+
 /// `DEF_INH(line, {attributes, address});`
 #[derive(Drop)]
 pub(crate) struct HandlerStatement {
@@ -90,5 +110,16 @@ pub enum Keyword {
     Queue,
     SpinLock,
     Mutex,
+    Pool,
+    Mailbox,
     Handler,
+}
+
+/// Which names a statement has for its attributes.
+#[derive(Clone, Copy)]
+pub(crate) enum AttributeNames {
+    /// Those that all objects share but mutexes and mailboxes.
+    Common,
+    /// Those of mailboxes.
+    Mailbox,
 }

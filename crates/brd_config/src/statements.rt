@@ -8,12 +8,12 @@ ghost use Rattle.brd_config.specs.Statements as statements;
 use crate::fault::ConfigFault;
 use crate::objects::Stack;
 use crate::reading::{
-    area, class_number, find, head, listed_number, listed_operand, mark, number, operand, protocol,
-    stack, tail,
+    area, class_number, find, head, listed_number, listed_operand, mark, null, number, operand,
+    protocol, stack, tail,
 };
 use crate::statement::{
-    FlagStatement, HandlerStatement, Keyword, MutexStatement, QueueStatement, SemaphoreStatement,
-    SpinLockStatement, Statement, TaskStatement,
+    AttributeNames, FlagStatement, HandlerStatement, Keyword, MailboxStatement, MutexStatement,
+    PoolStatement, QueueStatement, SemaphoreStatement, SpinLockStatement, Statement, TaskStatement,
 };
 use brd_text::{Scanner, Token};
 use std::alloc::Global;
@@ -28,6 +28,8 @@ pub const KEYWORDS: &[(&[u8], Keyword)] = &[
     (b"CRE_DTQ", Keyword::Queue),
     (b"CRE_SPN", Keyword::SpinLock),
     (b"CRE_MTX", Keyword::Mutex),
+    (b"CRE_MPF", Keyword::Pool),
+    (b"CRE_MBX", Keyword::Mailbox),
     (b"DEF_INH", Keyword::Handler),
 ];
 
@@ -85,7 +87,7 @@ fn task(alloc: Global, tokens: &mut Scanner) -> Result<Statement, ConfigFault>
     ensures read { Gives (λ s. (s, tokens.new)) result (statements.task_at tokens.old) }
     ensures shorter { OnOk result (length tokens.new.tokens < length tokens.old.tokens) }
 {
-    let (id, attributes) = head(tokens, b',')?;
+    let (id, attributes) = head(tokens, AttributeNames::Common, b',')?;
     let exinf = listed_operand(alloc, tokens)?;
     let address = listed_operand(alloc, tokens)?;
     let (priority, stack_size, stack) = task_tail(alloc, tokens)?;
@@ -106,7 +108,7 @@ fn semaphore(tokens: &mut Scanner) -> Result<Statement, ConfigFault>
     ensures read { Gives (λ s. (s, tokens.new)) result (statements.semaphore_at tokens.old) }
     ensures shorter { OnOk result (length tokens.new.tokens < length tokens.old.tokens) }
 {
-    let (id, attributes) = head(tokens, b',')?;
+    let (id, attributes) = head(tokens, AttributeNames::Common, b',')?;
     let initial = listed_number(tokens)?;
     let maximum = number(tokens)?;
     tail(tokens)?;
@@ -124,7 +126,7 @@ fn flag(tokens: &mut Scanner) -> Result<Statement, ConfigFault>
     ensures read { Gives (λ s. (s, tokens.new)) result (statements.flag_at tokens.old) }
     ensures shorter { OnOk result (length tokens.new.tokens < length tokens.old.tokens) }
 {
-    let (id, attributes) = head(tokens, b',')?;
+    let (id, attributes) = head(tokens, AttributeNames::Common, b',')?;
     let pattern = number(tokens)?;
     tail(tokens)?;
     Ok(Statement::Flag(FlagStatement {
@@ -140,7 +142,7 @@ fn queue(tokens: &mut Scanner) -> Result<Statement, ConfigFault>
     ensures read { Gives (λ s. (s, tokens.new)) result (statements.queue_at tokens.old) }
     ensures shorter { OnOk result (length tokens.new.tokens < length tokens.old.tokens) }
 {
-    let (id, attributes) = head(tokens, b',')?;
+    let (id, attributes) = head(tokens, AttributeNames::Common, b',')?;
     let capacity = listed_number(tokens)?;
     area(tokens)?;
     tail(tokens)?;
@@ -157,7 +159,7 @@ fn spin_lock(tokens: &mut Scanner) -> Result<Statement, ConfigFault>
     ensures read { Gives (λ s. (s, tokens.new)) result (statements.spin_lock_at tokens.old) }
     ensures shorter { OnOk result (length tokens.new.tokens < length tokens.old.tokens) }
 {
-    let (id, attributes) = head(tokens, b'}')?;
+    let (id, attributes) = head(tokens, AttributeNames::Common, b'}')?;
     mark(tokens, b')')?;
     mark(tokens, b';')?;
     Ok(Statement::SpinLock(SpinLockStatement { id, attributes }))
@@ -183,13 +185,50 @@ fn mutex(tokens: &mut Scanner) -> Result<Statement, ConfigFault>
     }))
 }
 
+/// Takes what follows `CRE_MPF`.
+#[tactic(auto, unfolding(crate::specs::Statements::pool_at))]
+fn pool(alloc: Global, tokens: &mut Scanner) -> Result<Statement, ConfigFault>
+    ensures read { Gives (λ s. (s, tokens.new)) result (statements.pool_at tokens.old) }
+    ensures shorter { OnOk result (length tokens.new.tokens < length tokens.old.tokens) }
+{
+    let (id, attributes) = head(tokens, AttributeNames::Common, b',')?;
+    let count = listed_number(tokens)?;
+    let size = listed_number(tokens)?;
+    let area = stack(alloc, tokens)?;
+    tail(tokens)?;
+    Ok(Statement::Pool(PoolStatement {
+        id,
+        attributes,
+        count,
+        size,
+        area,
+    }))
+}
+
+/// Takes what follows `CRE_MBX`.
+#[tactic(auto, unfolding(crate::specs::Statements::mailbox_at))]
+fn mailbox(tokens: &mut Scanner) -> Result<Statement, ConfigFault>
+    ensures read { Gives (λ s. (s, tokens.new)) result (statements.mailbox_at tokens.old) }
+    ensures shorter { OnOk result (length tokens.new.tokens < length tokens.old.tokens) }
+{
+    let (id, attributes) = head(tokens, AttributeNames::Mailbox, b',')?;
+    let priorities = listed_number(tokens)?;
+    null(tokens)?;
+    tail(tokens)?;
+    Ok(Statement::Mailbox(MailboxStatement {
+        id,
+        attributes,
+        priorities,
+    }))
+}
+
 /// Takes what follows `DEF_INH`.
 #[tactic(auto, unfolding(crate::specs::Statements::handler_at))]
 fn handler(alloc: Global, tokens: &mut Scanner) -> Result<Statement, ConfigFault>
     ensures read { Gives (λ s. (s, tokens.new)) result (statements.handler_at tokens.old) }
     ensures shorter { OnOk result (length tokens.new.tokens < length tokens.old.tokens) }
 {
-    let (line, attributes) = head(tokens, b',')?;
+    let (line, attributes) = head(tokens, AttributeNames::Common, b',')?;
     let address = operand(alloc, tokens)?;
     tail(tokens)?;
     Ok(Statement::Handler(HandlerStatement {
@@ -234,6 +273,18 @@ fn behind_keyword(
                 return Err(ConfigFault::Syntax { line });
             }
             mutex(tokens)
+        }
+        Keyword::Pool => {
+            if !standard {
+                return Err(ConfigFault::Syntax { line });
+            }
+            pool(alloc, tokens)
+        }
+        Keyword::Mailbox => {
+            if !standard {
+                return Err(ConfigFault::Syntax { line });
+            }
+            mailbox(tokens)
         }
         Keyword::Handler => handler(alloc, tokens),
     }

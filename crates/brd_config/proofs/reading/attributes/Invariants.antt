@@ -6,7 +6,7 @@ use Rattle.brd_config.proofs.reading.attributes.Given as goal
 
 abbrev pub invariant-attributes : goal.invariant-attributes
 invariant-attributes l = record {
-  goes : Goes NoMemory (attribute_step l.end) (length l.tokens.tokens) (l.bits, l.tokens) (attributes_at l.end l.fn.tokens);
+  goes : Goes NoMemory (attribute_step l.names l.end) (length l.tokens.tokens) (l.bits, l.tokens) (attributes_at l.names l.end l.fn.tokens);
   room : length l.tokens.tokens ≤ length l.fn.tokens.tokens;
 }
 
