@@ -3,3 +3,6 @@ pub mod ColumnLemmas
 pub mod BitLemmas
 pub mod LawLemmas
 pub mod ChangeLemmas
+pub mod PoolLemmas
+pub mod BlockLemmas
+pub mod MessageLemmas

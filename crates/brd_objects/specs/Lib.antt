@@ -6,4 +6,6 @@ pub mod Waiters
 pub mod Flags
 pub mod Columns
 pub mod DataQueues
+pub mod Pools
+pub mod Mailboxes
 pub use Rattle.brd_queue.specs.Queue

@@ -32,6 +32,10 @@ pub enum WaitKind {
     Datum,
     /// A mutex.
     Mutex,
+    /// A block of a fixed memory pool.
+    Block,
+    /// A message of a mailbox.
+    Message,
 }
 
 /// What a task waits for (uITRON 4.0 specification, the `tskwait` of ref_tsk).
