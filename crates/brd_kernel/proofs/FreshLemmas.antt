@@ -19,6 +19,8 @@ use Rattle.brd_config.specs.declared.objects.FlagConfig.{FlagConfig}
 use Rattle.brd_config.specs.declared.objects.QueueConfig.{QueueConfig}
 use Rattle.brd_config.specs.declared.objects.SpinLockConfig.{SpinLockConfig}
 use Rattle.brd_config.specs.declared.objects.MutexConfig.{MutexConfig}
+use Rattle.brd_config.specs.declared.objects.MailboxConfig.{MailboxConfig}
+use Rattle.brd_objects.specs.declared.block.PoolSetup.{PoolSetup}
 use Rattle.brd_objects.specs.declared.mutex.Mutex.{Mutex}
 use Rattle.brd_objects.specs.Mutexes.{mutex_of}
 use Rattle.brd_objects.specs.Table.{object_at}
@@ -121,9 +123,9 @@ unstarted-fresh None = tt
 unstarted-fresh (Some setup) = record { base = refl; free = refl }
 
 pub made-fresh : (standard : Bool) (processors : ℕ) (setups : List TaskSetup) (lines : List LineSetup) (semaphores : List SemaphoreConfig) (flags : List FlagConfig)
-    (queues : List QueueConfig) (spin_locks : List SpinLockConfig) (mutexes : List MutexConfig) →
-    Fresh (made_kernel standard processors setups lines semaphores flags queues spin_locks mutexes)
-made-fresh standard processors setups lines semaphores flags queues spin_locks mutexes = record {
+    (queues : List QueueConfig) (spin_locks : List SpinLockConfig) (mutexes : List MutexConfig) (pools : List PoolSetup) (mailboxes : List MailboxConfig) →
+    Fresh (made_kernel standard processors setups lines semaphores flags queues spin_locks mutexes pools mailboxes)
+made-fresh standard processors setups lines semaphores flags queues spin_locks mutexes pools mailboxes = record {
   tasks = λ at. row-at (nat_lt at 256) setups 256 at refl FreshRow tt (unstarted-fresh (find (λ setup. setup.id == at) setups));
   mutexes = λ at. each-first (λ m. m.owner ≡ None) (λ config. config.id) mutex_of mutexes at (λ c. refl);
 }

@@ -22,6 +22,8 @@ use Rattle.std.proofs.lemmas.List.Elements.{All-nil, All-cons}
 use Rattle.brd_config.specs.declared.objects.SpinLockConfig.{SpinLockConfig}
 use Rattle.brd_kernel.specs.Making.{idle_one, idle_ones, made_line, made_lines, is_configured, made_spin_locks}
 use Rattle.brd_objects.specs.declared.mutex.Mutex.{Mutex}
+use Rattle.brd_objects.specs.Pools.{PoolState}
+use Rattle.brd_objects.specs.Mailboxes.{MailboxState}
 
 -- the lines by one number more
 
@@ -69,10 +71,10 @@ unfolding idle_ones
 none-at-0 processors = get_or-map-range_with_len (idle_one processors) 0 9 0 0 None (omega arith) (omega arith)
 
 -- what a function has made part by part is a kernel
-pub made-kernel : (standard : Bool) (time : Time) (tasks : TaskTable) (semaphores : Table Semaphore) (flags : Table Flag) (queues : Table DataQueueState) (mutexes : Table Mutex) (locks : List Bool) (processors : ℕ) (setups : List LineSetup) (ps : List (Option Processor)) (contexts : List State) (lines : List InterruptLine) (console : List ℕ) →
+pub made-kernel : (standard : Bool) (time : Time) (tasks : TaskTable) (semaphores : Table Semaphore) (flags : Table Flag) (queues : Table DataQueueState) (mutexes : Table Mutex) (pools : Table PoolState) (mailboxes : Table MailboxState) (locks : List Bool) (processors : ℕ) (setups : List LineSetup) (ps : List (Option Processor)) (contexts : List State) (lines : List InterruptLine) (console : List ℕ) →
     ps ≡ idle_ones processors 9 → contexts ≡ replicate 9 no_context → lines ≡ made_lines setups 32 → console ≡ [] →
-    IsKernel (record { off = false; standard = standard; clock = 0; time = time; tasks = tasks; semaphores = semaphores; flags = flags; queues = queues; mutexes = mutexes; spin_locks = locks; processors = ps; handler_contexts = contexts; lines = lines; console = console })
-made-kernel standard time tasks semaphores flags queues mutexes locks processors setups ps contexts lines console ps_are contexts_are lines_are console_is = record {
+    IsKernel (record { off = false; standard = standard; clock = 0; time = time; tasks = tasks; semaphores = semaphores; flags = flags; queues = queues; mutexes = mutexes; pools = pools; mailboxes = mailboxes; spin_locks = locks; processors = ps; handler_contexts = contexts; lines = lines; console = console })
+made-kernel standard time tasks semaphores flags queues mutexes pools mailboxes locks processors setups ps contexts lines console ps_are contexts_are lines_are console_is = record {
   processors = ap length ps_are ∙ ones-length processors 9;
   handler_contexts = ap length contexts_are;
   lines = ap length lines_are ∙ lines-length setups 32;

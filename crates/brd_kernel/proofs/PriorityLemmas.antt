@@ -124,6 +124,8 @@ moved-of k id p kind.Semaphore = record { base = λ at. refl; reason = λ at. re
 moved-of k id p kind.Flag = record { base = λ at. refl; reason = λ at. refl; ceiling = λ at priorities. refl; inheritor = λ at. refl }
 moved-of k id p kind.Room = record { base = λ at. refl; reason = λ at. refl; ceiling = λ at priorities. refl; inheritor = λ at. refl }
 moved-of k id p kind.Datum = record { base = λ at. refl; reason = λ at. refl; ceiling = λ at priorities. refl; inheritor = λ at. refl }
+moved-of k id p kind.Block = record { base = λ at. refl; reason = λ at. refl; ceiling = λ at priorities. refl; inheritor = λ at. refl }
+moved-of k id p kind.Message = record { base = λ at. refl; reason = λ at. refl; ceiling = λ at priorities. refl; inheritor = λ at. refl }
 
 moved-for : (k : KernelState) (id p : ℕ) (why : Option WaitReason) → SameRoots k (reordered_in k id p why)
 moved-for k id p None = same-self k

@@ -24,10 +24,12 @@ use Rattle.brd_exec.specs.State.{State}
 use Rattle.brd_kernel.specs.declared.processor.Processor.{Processor}
 use Rattle.brd_kernel.specs.Kernel.{KernelState, with_tasks, with_processor, processor_at, with_context_of}
 use Rattle.brd_kernel.specs.Waits.{can_wait, with_wait, released_in, reason_of, broken_off, ended_in, reordered_in, answer_by, timed_out, all_timed_out, with_released, given_in, all_given_in, quits_in, prioritized}
-use Rattle.brd_kernel.specs.Services.{unmarked_on, handler_ended, with_all_released_in, with_satisfied_of, handed_over}
+use Rattle.brd_kernel.specs.Services.{unmarked_on, handler_ended, with_all_released_in, with_satisfied_of, handed_over, released_with_second, message_of}
 use Rattle.brd_kernel.proofs.WaitLemmas.{OnlyLists, unlisted-only, reordered-only}
 use Rattle.brd_kernel.proofs.WalkLemmas.{Lacks, No-one, lacked, awaiting, Fact, OfTask, Holding, Law}
 use Rattle.brd_objects.specs.Mutexes.{given, next_owner_in}
+use Rattle.brd_objects.specs.Pools.{PoolState, given_back, next_holder}
+use Rattle.brd_objects.specs.Mailboxes.{MailboxState, message_sent, message_outcome}
 use Rattle.brd_kernel.proofs.PricedLemmas.{priced, priced_in}
 use Rattle.brd_kernel.proofs.SettledLemmas.{Settles, all-given, all-prioritized}
 
@@ -120,6 +122,10 @@ same-satisfied k id (Some f) =
     same-all_released new (all_released f) f.pattern in
     record { processors = rest.processors; spin_locks = rest.spin_locks; standard = rest.standard }
 
+pub same-second : (k : KernelState) (second : ℕ) (id : Option ℕ) → Same (released_with_second k second id) k
+same-second k second None = record { processors = refl; spin_locks = refl; standard = refl }
+same-second k second (Some id) = record { processors = refl; spin_locks = refl; standard = refl }
+
 pub same-handed : (k : KernelState) (datum : ℕ) (what : Sent) → Same (handed_over k datum what) k
 same-handed k datum (Handed id) = record { processors = refl; spin_locks = refl; standard = refl }
 same-handed k datum Stored = record { processors = refl; spin_locks = refl; standard = refl }
@@ -190,6 +196,14 @@ same-law Q k cpu caller law = record {
       law.same _ (record { processors = only.processors; spin_locks = only.spin_locks; standard = only.standard });
   locks = λ id m there. law.same _ (record { processors = refl; spin_locks = refl; standard = refl });
   gives = λ id m there. law.same _ (same-given k id);
+  hands-out = λ id p block there is. law.same _ (record { processors = refl; spin_locks = refl; standard = refl });
+  gives-back = λ id block (p : PoolState) there.
+      let only = same-second (record k { pools = object_changed (given_back block) k.pools id }) block (next_holder block p) in
+      law.same _ (record { processors = only.processors; spin_locks = only.spin_locks; standard = only.standard });
+  posts = λ id address priority (m : MailboxState) there.
+      let only = same-handed (record k { mailboxes = object_changed (message_sent (message_of address priority)) k.mailboxes id }) address (message_outcome m) in
+      law.same _ (record { processors = only.processors; spin_locks = only.spin_locks; standard = only.standard });
+  fetches = λ id m address there is. law.same _ (record { processors = refl; spin_locks = refl; standard = refl });
   awaits = λ id due lacks may.
       law.same _ (same-wait k caller (reason.On (lacked lacks) id) due (awaiting k caller id lacks) (same-entered k caller id lacks));
   writes = λ word. law.same _ (record { processors = refl; spin_locks = refl; standard = refl });

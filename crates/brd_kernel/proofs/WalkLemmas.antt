@@ -38,11 +38,13 @@ use Rattle.brd_kernel.specs.Kernel.{KernelState, with_tasks, with_processor, pro
 use Rattle.brd_kernel.specs.Waits.{is_bad_timeout, due_by, due_after, with_wait, released_in, broken_off, with_released, quits_in, given_in, prioritized}
 use Rattle.brd_kernel.specs.Row.{served, asks_again, Served}
 use Rattle.brd_kernel.specs.Services as table
-use Rattle.brd_kernel.specs.Services.{named, is_asleep, is_bad_want, is_held_elsewhere, is_no_processor, or_waits, callers_priority, with_satisfied_released, handed_over, flag_got, queue_sent, queue_received, unmarked_on, handler_ended, is_taken, lock_taken_by, lock_taken, lock_given_by, is_no_id, is_there_taken, comes_again, serve_by, serve_of, caller_on}
+use Rattle.brd_kernel.specs.Services.{named, is_asleep, is_bad_want, is_held_elsewhere, is_no_processor, or_waits, callers_priority, with_satisfied_released, handed_over, flag_got, queue_sent, queue_received, block_got, message_got, message_of, released_with_second, unmarked_on, handler_ended, is_taken, lock_taken_by, lock_taken, lock_given_by, is_no_id, is_there_taken, comes_again, serve_by, serve_of, caller_on}
 use Rattle.brd_kernel.proofs.ServedLemmas.{Wanted, Leaves, leaves-row, leaves-if, leaves-or_refused, again-or_refused, LeavesBy}
 use Rattle.brd_kernel.proofs.PricedLemmas.{priced_in}
 use Rattle.brd_objects.specs.declared.mutex.Mutex.{Mutex}
 use Rattle.brd_objects.specs.Mutexes.{owned, mutex_awaited}
+use Rattle.brd_objects.specs.Pools.{PoolState, block_for, handed_out, given_back, next_holder, pool_awaited}
+use Rattle.brd_objects.specs.Mailboxes.{MailboxState, message_sent, message_outcome, message_received, next_message, mailbox_awaited}
 
 -- a request names a processor of the board, if it names one
 abbrev pub IsOfBoard : KernelState → Request → Type 0
@@ -63,17 +65,26 @@ in_senders k caller id datum = record k { queues = object_changed (awaited_by_se
 abbrev pub in_mutex : KernelState → ℕ → ℕ → KernelState
 in_mutex k caller id = record k { mutexes = object_changed (mutex_awaited caller (callers_priority k caller)) k.mutexes id }
 
+abbrev pub in_pool : KernelState → ℕ → ℕ → KernelState
+in_pool k caller id = record k { pools = object_changed (pool_awaited caller (callers_priority k caller)) k.pools id }
+
+abbrev pub in_mailbox : KernelState → ℕ → ℕ → KernelState
+in_mailbox k caller id = record k { mailboxes = object_changed (mailbox_awaited caller (callers_priority k caller)) k.mailboxes id }
+
 abbrev pub in_receivers : KernelState → ℕ → ℕ → KernelState
 in_receivers k caller id = record k { queues = object_changed (awaited_by_receiver caller (callers_priority k caller)) k.queues id }
 
 -- What a caller finds of an object where it begins to wait for it: a semaphore without one, a flag without the bits, a
--- full data queue, an empty one, or a mutex that somebody has.
+-- full data queue, an empty one, a mutex that somebody has, a memory pool of which all blocks are out, or a mailbox
+-- without a message.
 pub data Lacks (k : KernelState) (id : ℕ) : Type 0 where
   No-one : (s : Semaphore) → object_at k.semaphores id ≡ Some s → has_one s ≡ false → Lacks k id
   No-bits : (want : Want) (f : Flag) → object_at k.flags id ≡ Some f → pattern_for want f ≡ None → want.bits ≢ 0 → Lacks k id
   No-room : (datum : ℕ) (q : DataQueueState) → object_at k.queues id ≡ Some q → outcome q ≡ Full → Lacks k id
   No-datum : (q : DataQueueState) → object_at k.queues id ≡ Some q → receipt q ≡ None → Lacks k id
   No-mutex : (m : Mutex) → object_at k.mutexes id ≡ Some m → is_some m.owner ≡ true → Lacks k id
+  No-block : (p : PoolState) → object_at k.pools id ≡ Some p → block_for p ≡ None → Lacks k id
+  No-message : (m : MailboxState) → object_at k.mailboxes id ≡ Some m → next_message m ≡ None → Lacks k id
 
 -- what it waits for then
 abbrev pub lacked : {k : KernelState} {id : ℕ} → Lacks k id → WaitKind
@@ -82,6 +93,8 @@ lacked (No-bits want f there none some) = kind.Flag
 lacked (No-room datum q there full) = kind.Room
 lacked (No-datum q there none) = kind.Datum
 lacked (No-mutex m there held) = kind.Mutex
+lacked (No-block p there none) = kind.Block
+lacked (No-message m there none) = kind.Message
 
 -- it stands in the list of that
 abbrev pub awaiting : (k : KernelState) (caller id : ℕ) → Lacks k id → KernelState
@@ -90,6 +103,8 @@ awaiting k caller id (No-bits want f there none some) = in_flag k caller id want
 awaiting k caller id (No-room datum q there full) = in_senders k caller id datum
 awaiting k caller id (No-datum q there none) = in_receivers k caller id
 awaiting k caller id (No-mutex m there held) = in_mutex k caller id
+awaiting k caller id (No-block p there none) = in_pool k caller id
+awaiting k caller id (No-message m there none) = in_mailbox k caller id
 
 -- What the gate may have shown of a caller: its processor isn't held; it is the task that runs there, and no handler;
 -- its processor holds no spin lock.
@@ -167,6 +182,16 @@ pub record Law (Known : Fact → Type 0) (Q : KernelState → Type 0) (k : Kerne
   -- of a mutex
   pub locks : (id : ℕ) (m : Mutex) → object_at k.mutexes id ≡ Some m → Q (record k { mutexes = object_changed (owned caller) k.mutexes id })
   pub gives : (id : ℕ) (m : Mutex) → object_at k.mutexes id ≡ Some m → Q (given_in k id)
+  -- of a memory pool
+  pub hands-out : (id : ℕ) (p : PoolState) (block : ℕ) → object_at k.pools id ≡ Some p → block_for p ≡ Some block →
+      Q (record k { pools = object_changed handed_out k.pools id })
+  pub gives-back : (id block : ℕ) (p : PoolState) → object_at k.pools id ≡ Some p →
+      Q (released_with_second (record k { pools = object_changed (given_back block) k.pools id }) block (next_holder block p))
+  -- of a mailbox
+  pub posts : (id address priority : ℕ) (m : MailboxState) → object_at k.mailboxes id ≡ Some m →
+      Q (handed_over (record k { mailboxes = object_changed (message_sent (message_of address priority)) k.mailboxes id }) address (message_outcome m))
+  pub fetches : (id : ℕ) (m : MailboxState) (address : ℕ) → object_at k.mailboxes id ≡ Some m → next_message m ≡ Some address →
+      Q (record k { mailboxes = object_changed message_received k.mailboxes id })
   -- of a wait for an object
   pub awaits : (id : ℕ) (due : Option ℕ) (lacks : Lacks k id) → Known Unheld →
       Q (with_wait k caller (reason.On (lacked lacks) id) due (awaiting k caller id lacks))
@@ -201,6 +226,8 @@ stop_of (call.TwaiFlg f bits mode timeout) = MayWait timeout
 stop_of (call.TsndDtq q datum timeout) = MayWait timeout
 stop_of (call.TrcvDtq q timeout) = MayWait timeout
 stop_of (call.TlocMtx m timeout) = MayWait timeout
+stop_of (call.TgetMpf p timeout) = MayWait timeout
+stop_of (call.TrcvMbx b timeout) = MayWait timeout
 stop_of _ = GoesOn
 
 -- What has to be known of the caller of a call by that.
@@ -278,6 +305,22 @@ received-by Q k cpu caller law id timeout q (Some it) there is may = law.receive
 received-by Q k cpu caller law id timeout q None there is may =
     waits Q k caller (reason.On kind.Datum id) timeout (in_receivers k caller id)
     (λ wait. law.awaits id (due_by k timeout) (No-datum q there is) (may wait))
+
+block-for : {Known : Fact → Type 0} (Q : Wanted) (k : KernelState) (cpu caller : ℕ) (law : Law Known Q.kernel k cpu caller) (id timeout : ℕ)
+    (p : PoolState) (found : Option ℕ) → object_at k.pools id ≡ Some p → block_for p ≡ found → ((timeout == 0) ≡ false → Known Unheld) →
+    Leaves Q (block_got k caller id timeout found)
+block-for Q k cpu caller law id timeout p (Some block) there is may = law.hands-out id p block there is
+block-for Q k cpu caller law id timeout p None there is may =
+    waits Q k caller (reason.On kind.Block id) timeout (in_pool k caller id)
+    (λ wait. law.awaits id (due_by k timeout) (No-block p there is) (may wait))
+
+message-for : {Known : Fact → Type 0} (Q : Wanted) (k : KernelState) (cpu caller : ℕ) (law : Law Known Q.kernel k cpu caller) (id timeout : ℕ)
+    (m : MailboxState) (found : Option ℕ) → object_at k.mailboxes id ≡ Some m → next_message m ≡ found → ((timeout == 0) ≡ false → Known Unheld) →
+    Leaves Q (message_got k caller id timeout found)
+message-for Q k cpu caller law id timeout m (Some address) there is may = law.fetches id m address there is
+message-for Q k cpu caller law id timeout m None there is may =
+    waits Q k caller (reason.On kind.Message id) timeout (in_mailbox k caller id)
+    (λ wait. law.awaits id (due_by k timeout) (No-message m there is) (may wait))
 
 woken : {Known : Fact → Type 0} (Q : Wanted) (k : KernelState) (cpu caller : ℕ) (law : Law Known Q.kernel k cpu caller) (id : ℕ) →
     Leaves Q (served (table.wup_tsk k id))
@@ -417,6 +460,18 @@ walk Q k cpu caller law (call.TlocMtx id timeout) may told =
     (λ free. law.locks id m passes.there))
 walk Q k cpu caller law (call.UnlMtx id) may told = leaves-row Q (table.unl_mtx k caller id) (λ (m : Mutex) passes. law.gives id m passes.there)
 walk Q k cpu caller law (call.RefMtx id word) may told = leaves-row Q (table.ref_mtx k id word) (λ (m : Mutex) passes. law.stays)
+walk Q k cpu caller law (call.TgetMpf id timeout) may told =
+    leaves-row Q (table.tget_mpf k caller id timeout)
+    (λ (p : PoolState) passes. block-for Q k cpu caller law id timeout p (block_for p) passes.there refl may)
+walk Q k cpu caller law (call.RelMpf id block) may told =
+    leaves-row Q (table.rel_mpf k id block) (λ (p : PoolState) passes. law.gives-back id block p passes.there)
+walk Q k cpu caller law (call.SndMbx id address priority) may told =
+    leaves-row Q (table.snd_mbx k id address priority) (λ (m : MailboxState) passes. law.posts id address priority m passes.there)
+walk Q k cpu caller law (call.TrcvMbx id timeout) may told =
+    leaves-row Q (table.trcv_mbx k caller id timeout)
+    (λ (m : MailboxState) passes. message-for Q k cpu caller law id timeout m (next_message m) passes.there refl may)
+walk Q k cpu caller law (call.RefMpf id word) may told = leaves-row Q (table.ref_mpf k id word) (λ (p : PoolState) passes. law.stays)
+walk Q k cpu caller law (call.RefMbx id word) may told = leaves-row Q (table.ref_mbx k id word) (λ (m : MailboxState) passes. law.stays)
 
 -- Then tasks are given the priorities that they are to have.
 

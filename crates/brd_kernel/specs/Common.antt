@@ -6,13 +6,16 @@ use Rattle.brd_objects.specs.declared.flag.Flag.{Flag}
 use Rattle.brd_objects.specs.declared.mutex.Mutex.{Mutex}
 use Rattle.brd_objects.specs.Table.{Table}
 use Rattle.brd_objects.specs.DataQueues.{DataQueueState}
+use Rattle.brd_objects.specs.Pools.{PoolState}
+use Rattle.brd_objects.specs.Mailboxes.{MailboxState}
 use Rattle.brd_kernel.specs.declared.common.Common.{Common}
 use Rattle.brd_kernel.specs.Kernel.{KernelState}
 use Rattle.brd_kernel.specs.Always.{IsKernel, AreQuiet, task_executing}
 
 -- the kernel, with these objects
-abbrev pub kernel_of : Common → Table Semaphore → Table Flag → Table DataQueueState → Table Mutex → KernelState
-kernel_of c semaphores flags queues mutexes = record {
+abbrev pub kernel_of : Common → Table Semaphore → Table Flag → Table DataQueueState → Table Mutex → Table PoolState →
+    Table MailboxState → KernelState
+kernel_of c semaphores flags queues mutexes pools mailboxes = record {
   off = c.off;
   standard = c.standard;
   clock = c.clock;
@@ -22,6 +25,8 @@ kernel_of c semaphores flags queues mutexes = record {
   flags = flags;
   queues = queues;
   mutexes = mutexes;
+  pools = pools;
+  mailboxes = mailboxes;
   spin_locks = c.spin_locks.items;
   processors = c.processors;
   handler_contexts = c.handler_contexts.items;
@@ -38,7 +43,8 @@ pub record IsCommon (c : Common) (k : KernelState) : Type 0 where
 -- a copy makes the same kernel, whatever its objects, and has the same beside it
 pub record IsCopy (c copy : Common) : Type 0 where
   pub same : (semaphores : Table Semaphore) (flags : Table Flag) (queues : Table DataQueueState)
-      (mutexes : Table Mutex) →
-      kernel_of copy semaphores flags queues mutexes ≡ kernel_of c semaphores flags queues mutexes
+      (mutexes : Table Mutex) (pools : Table PoolState) (mailboxes : Table MailboxState) →
+      kernel_of copy semaphores flags queues mutexes pools mailboxes
+      ≡ kernel_of c semaphores flags queues mutexes pools mailboxes
   pub pending : copy.pending ≡ c.pending
   pub executing : copy.executing ≡ c.executing

@@ -10,6 +10,8 @@ use Rattle.brd_objects.specs.declared.flag.Flag.{Flag}
 use Rattle.brd_objects.specs.declared.mutex.Mutex.{Mutex}
 use Rattle.brd_objects.specs.Table.{Table, object_at}
 use Rattle.brd_objects.specs.DataQueues.{DataQueueState}
+use Rattle.brd_objects.specs.Pools.{PoolState}
+use Rattle.brd_objects.specs.Mailboxes.{MailboxState}
 use Rattle.brd_kernel.specs.declared.processor.Processor.{Processor}
 use Rattle.brd_kernel.specs.declared.processor.Handler.{Handler}
 use Rattle.brd_kernel.specs.declared.processor.InterruptLine.{InterruptLine}
@@ -27,10 +29,12 @@ pub record KernelState : Type 0 where
   pub clock : ℕ  -- what the system time was before the first tick; it goes on with the ticks, modulo 2^32
   pub time : Time  -- the ticks so far, and when waits end
   pub tasks : TaskTable
-  pub semaphores : Table Semaphore  -- by ID, 256 of them, as the three below
+  pub semaphores : Table Semaphore  -- by ID, 256 of them, as the five below
   pub flags : Table Flag
   pub queues : Table DataQueueState
   pub mutexes : Table Mutex
+  pub pools : Table PoolState
+  pub mailboxes : Table MailboxState
   pub spin_locks : List Bool  -- by ID, 256 of them: whether there is one; who holds it, its processor says
   pub processors : List (Option Processor)  -- by number, 9 of them: None at 0 and where the board has no such processor
   -- by the processor's number, 9 of them: the context of the handler that runs there; any, where none runs

@@ -10,11 +10,15 @@ use Rattle.brd_config.specs.declared.objects.FlagConfig.{FlagConfig}
 use Rattle.brd_config.specs.declared.objects.QueueConfig.{QueueConfig}
 use Rattle.brd_config.specs.declared.objects.SpinLockConfig.{SpinLockConfig}
 use Rattle.brd_config.specs.declared.objects.MutexConfig.{MutexConfig}
+use Rattle.brd_config.specs.declared.objects.MailboxConfig.{MailboxConfig}
+use Rattle.brd_objects.specs.declared.block.PoolSetup.{PoolSetup}
 use Rattle.brd_time.specs.Time.{beginning}
 use Rattle.brd_objects.specs.Semaphores.{made_semaphores}
 use Rattle.brd_objects.specs.Flags.{made_flags}
 use Rattle.brd_objects.specs.DataQueues.{made_queues}
 use Rattle.brd_objects.specs.Mutexes.{made_mutexes}
+use Rattle.brd_objects.specs.Pools.{made_pools}
+use Rattle.brd_objects.specs.Mailboxes.{made_mailboxes}
 use Rattle.brd_kernel.specs.declared.processor.Processor.{Processor}
 use Rattle.brd_kernel.specs.declared.processor.Handler.{Handler}
 use Rattle.brd_kernel.specs.declared.processor.InterruptLine.{InterruptLine}
@@ -50,8 +54,8 @@ unfoldable pub made_spin_locks : List SpinLockConfig → ℕ → List Bool
 made_spin_locks configs count = map (is_configured configs) (range_with_len 0 count)
 
 abbrev pub made_kernel : Bool → ℕ → List TaskSetup → List LineSetup → List SemaphoreConfig → List FlagConfig →
-    List QueueConfig → List SpinLockConfig → List MutexConfig → KernelState
-made_kernel standard processors setups lines semaphores flags queues spin_locks mutexes = record {
+    List QueueConfig → List SpinLockConfig → List MutexConfig → List PoolSetup → List MailboxConfig → KernelState
+made_kernel standard processors setups lines semaphores flags queues spin_locks mutexes pools mailboxes = record {
   off = false;
   standard = standard;
   clock = 0;
@@ -61,6 +65,8 @@ made_kernel standard processors setups lines semaphores flags queues spin_locks 
   flags = made_flags flags;
   queues = made_queues queues;
   mutexes = made_mutexes mutexes;
+  pools = made_pools pools;
+  mailboxes = made_mailboxes mailboxes;
   spin_locks = made_spin_locks spin_locks 256;
   processors = idle_ones processors 9;
   handler_contexts = replicate 9 no_context;

@@ -39,6 +39,13 @@ use Rattle.brd_objects.specs.Waiters.{first_in}
 use Rattle.brd_objects.specs.DataQueues.{DataQueueState, sent, outcome, forced, forced_outcome, received, receipt}
 use Rattle.brd_objects.specs.DataQueues.{awaited_by_sender, awaited_by_receiver}
 use Rattle.brd_objects.specs.Mutexes.{is_owned_by, owned, next_owner, mutex_awaited}
+use Rattle.brd_queue.specs.declared.entry.QueueOrder.{QueueOrder}
+use Rattle.brd_queue.specs.declared.entry.QueueOrder.TheVariants as order
+use Rattle.brd_objects.specs.Pools.{PoolState, free_among, is_out, block_for, handed_out, given_back, next_holder}
+use Rattle.brd_objects.specs.Pools.{pool_awaited}
+use Rattle.brd_objects.specs.declared.message.Message.{Message}
+use Rattle.brd_objects.specs.Mailboxes.{MailboxState, has_no_place, message_sent, message_outcome, message_received}
+use Rattle.brd_objects.specs.Mailboxes.{next_message, mailbox_awaited}
 use Rattle.brd_time.specs.Time.{due_of}
 use Rattle.brd_kernel.specs.Waits.{forever, is_bad_timeout, due_after, due_by, priority_of}
 use Rattle.brd_kernel.specs.Waits.{with_wait, released_in, broken_off}
@@ -101,6 +108,12 @@ on_queue k id = on_object k id (object_at k.queues id)
 
 abbrev pub on_mutex : KernelState → ℕ → Row Mutex
 on_mutex k id = on_object k id (object_at k.mutexes id)
+
+abbrev pub on_pool : KernelState → ℕ → Row PoolState
+on_pool k id = on_object k id (object_at k.pools id)
+
+abbrev pub on_mailbox : KernelState → ℕ → Row MailboxState
+on_mailbox k id = on_object k id (object_at k.mailboxes id)
 
 abbrev pub on_spin_lock : KernelState → ℕ → Row Spin
 on_spin_lock k id = on_object k id (spin_of k id)
@@ -208,13 +221,15 @@ abbrev pub state_word : Bool → Status → ℕ
 state_word true status = 1
 state_word false status = status_word status
 
--- TTW_SEM, TTW_FLG, TTW_SDTQ, TTW_RDTQ, TTW_MTX
+-- TTW_SEM, TTW_FLG, TTW_SDTQ, TTW_RDTQ, TTW_MTX, TTW_MPF, TTW_MBX
 abbrev pub kind_word : WaitKind → ℕ
 kind_word kind.Semaphore = 4
 kind_word kind.Flag = 8
 kind_word kind.Room = 16
 kind_word kind.Datum = 32
 kind_word kind.Mutex = 128
+kind_word kind.Block = 2 ^ 13
+kind_word kind.Message = 64
 
 -- TTW_SLP, TTW_DLY, and those; 0 where it doesn't wait
 abbrev pub wait_word : Option WaitReason → ℕ
@@ -268,6 +283,14 @@ queue_words q = id_or_none (first_in q.senders) ∷ id_or_none (first_in q.recei
 -- T_RMTX: htskid, wtskid
 abbrev pub mutex_words : Mutex → List ℕ
 mutex_words m = id_or_none m.owner ∷ id_or_none (next_owner m) ∷ []
+
+-- T_RMPF: wtskid, fblkcnt
+abbrev pub pool_words : PoolState → List ℕ
+pool_words p = id_or_none (first_in p.waiters) ∷ free_among p.blocks ∷ []
+
+-- T_RMBX: wtskid, and the address of the message that is received next, NULL where none is there
+abbrev pub mailbox_words : MailboxState → List ℕ
+mailbox_words m = id_or_none (first_in m.waiters) ∷ unwrap_or (next_message m) 0 ∷ []
 
 -- Effects that several calls share.
 
@@ -368,6 +391,8 @@ is_over_of k priority kind.Semaphore object = false
 is_over_of k priority kind.Flag object = false
 is_over_of k priority kind.Room object = false
 is_over_of k priority kind.Datum object = false
+is_over_of k priority kind.Block object = false
+is_over_of k priority kind.Message object = false
 
 abbrev pub is_over_for : KernelState → ℕ → Option WaitReason → Bool
 is_over_for k priority None = false
@@ -733,6 +758,98 @@ ref_mtx k id word = record (on_mutex k id) {
   does = λ m. ok_with k (slice_index (mutex_words m) word);
 }
 
+-- a block that is handed out, or who asked for it waits
+abbrev pub block_got : KernelState → ℕ → ℕ → ℕ → Option ℕ → Result Served Ercd
+block_got k caller id timeout (Some address) =
+    ok_with (record k { pools = object_changed handed_out k.pools id }) address
+block_got k caller id timeout None =
+    or_waits k caller (reason.On kind.Block id) timeout
+    (record k { pools = object_changed (pool_awaited caller (callers_priority k caller)) k.pools id })
+
+-- 82 get_mpf P, 83 pget_mpf P, 84 tget_mpf P, timeout. Refuses: PAR. Second result: a block's address. Takes the block
+-- with the lowest one, or waits.
+abbrev pub tget_mpf : KernelState → ℕ → ℕ → ℕ → Row PoolState
+tget_mpf k caller id timeout = record (on_pool k id) {
+  bad_par = is_bad_timeout timeout;
+  does = λ p. block_got k caller id timeout (block_for p);
+}
+
+-- no block of a pool that is out begins there
+abbrev pub is_no_block : ℕ → Option PoolState → Bool
+is_no_block address None = false
+is_no_block address (Some p) = not (is_out address p)
+
+-- a task, if it is one, is released with E_OK and a second result
+abbrev pub released_with_second : KernelState → ℕ → Option ℕ → KernelState
+released_with_second k second None = k
+released_with_second k second (Some id) = released_in k id e_ok (Some second)
+
+-- 85 rel_mpf P, block. Refuses: PAR no block of the pool begins there, or it isn't out. Gives it back: the first waiter
+-- has it then.
+abbrev pub rel_mpf : KernelState → ℕ → ℕ → Row PoolState
+rel_mpf k id address = record (on_pool k id) {
+  bad_par = is_no_block address (object_at k.pools id);
+  does = λ p. ok
+      (released_with_second (record k { pools = object_changed (given_back address) k.pools id }) address
+      (next_holder address p));
+}
+
+-- a priority that no message of a mailbox has, where its messages have one
+
+abbrev pub is_no_priority : QueueOrder → ℕ → ℕ → Bool
+is_no_priority order.Arrival most priority = false
+is_no_priority order.Priority most priority = priority == 0 || nat_lt most priority
+
+abbrev pub is_bad_message : ℕ → Option MailboxState → Bool
+is_bad_message priority None = false
+is_bad_message priority (Some m) = is_no_priority m.message_order m.priorities priority
+
+-- a message at an address; what its priority is has an effect with TA_MPRI alone, where it is one of 16
+abbrev pub message_of : ℕ → ℕ → Message
+message_of address priority = record { address = address; priority = priority % 2 ^ 8 }
+
+-- 86 snd_mbx B, message, priority, 87 isnd_mbx B, message, priority. Refuses: PAR with TA_MPRI, the priority is none of
+-- the mailbox's; QOVR 256 messages are there, and nobody waits. Sends the message.
+abbrev pub snd_mbx : KernelState → ℕ → ℕ → ℕ → Row MailboxState
+snd_mbx k id address priority = record (on_mailbox k id) {
+  bad_par = is_bad_message priority (object_at k.mailboxes id);
+  qovr = has_no_place;
+  does = λ m. ok
+      (handed_over
+      (record k { mailboxes = object_changed (message_sent (message_of address priority)) k.mailboxes id }) address
+      (message_outcome m));
+}
+
+-- a message that is received, or its receiver waits
+abbrev pub message_got : KernelState → ℕ → ℕ → ℕ → Option ℕ → Result Served Ercd
+message_got k caller id timeout (Some address) =
+    ok_with (record k { mailboxes = object_changed message_received k.mailboxes id }) address
+message_got k caller id timeout None =
+    or_waits k caller (reason.On kind.Message id) timeout
+    (record k { mailboxes = object_changed (mailbox_awaited caller (callers_priority k caller)) k.mailboxes id })
+
+-- 88 rcv_mbx B, 89 prcv_mbx B, 90 trcv_mbx B, timeout. Refuses: PAR. Second result: the address of a message. Receives
+-- it, or waits.
+abbrev pub trcv_mbx : KernelState → ℕ → ℕ → ℕ → Row MailboxState
+trcv_mbx k caller id timeout = record (on_mailbox k id) {
+  bad_par = is_bad_timeout timeout;
+  does = λ m. message_got k caller id timeout (next_message m);
+}
+
+-- 91 ref_mpf P, word. Refuses: PAR above 1. Second result: that word of T_RMPF.
+abbrev pub ref_mpf : KernelState → ℕ → ℕ → Row PoolState
+ref_mpf k id word = record (on_pool k id) {
+  bad_par = nat_lt 1 word;
+  does = λ p. ok_with k (slice_index (pool_words p) word);
+}
+
+-- 92 ref_mbx B, word. Refuses: PAR above 1. Second result: that word of T_RMBX.
+abbrev pub ref_mbx : KernelState → ℕ → ℕ → Row MailboxState
+ref_mbx k id word = record (on_mailbox k id) {
+  bad_par = nat_lt 1 word;
+  does = λ m. ok_with k (slice_index (mailbox_words m) word);
+}
+
 -- The rows by calls.
 
 abbrev pub serve_by : KernelState → ℕ → ℕ → Call → Result Served Ercd
@@ -788,6 +905,12 @@ serve_by k cpu caller (call.RefDtq q word) = served (ref_dtq k q word)
 serve_by k cpu caller (call.TlocMtx m timeout) = served (tloc_mtx k caller m timeout)
 serve_by k cpu caller (call.UnlMtx m) = served (unl_mtx k caller m)
 serve_by k cpu caller (call.RefMtx m word) = served (ref_mtx k m word)
+serve_by k cpu caller (call.TgetMpf p timeout) = served (tget_mpf k caller p timeout)
+serve_by k cpu caller (call.RelMpf p block) = served (rel_mpf k p block)
+serve_by k cpu caller (call.SndMbx b message priority) = served (snd_mbx k b message priority)
+serve_by k cpu caller (call.TrcvMbx b timeout) = served (trcv_mbx k caller b timeout)
+serve_by k cpu caller (call.RefMpf p word) = served (ref_mpf k p word)
+serve_by k cpu caller (call.RefMbx b word) = served (ref_mbx k b word)
 
 -- the number of the running task of a processor; 0 where none runs
 abbrev pub caller_on : KernelState → ℕ → ℕ

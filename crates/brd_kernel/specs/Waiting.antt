@@ -1,7 +1,8 @@
--- What holds of waits after every event. A task that waits for a semaphore, for bits of an event flag, for a mutex, or
--- to send to or receive from a data queue stands in the waiting list for just that, once and with its priority, and in
--- no other waiting list of an object; if that list is in the order of priority, no task stands in front of one with a
--- higher priority; no task waits for something that it could have at once; and only a task that waits has a due tick.
+-- What holds of waits after every event. A task that waits for a semaphore, for bits of an event flag, for a mutex, for
+-- a block of a memory pool, for a message of a mailbox, or to send to or receive from a data queue stands in the waiting
+-- list for just that, once and with its priority, and in no other waiting list of an object; where that list is in the
+-- order of priority, no task stands in front of one with a higher priority; no task waits for something that it could
+-- have at once; and only a task that waits has a due tick.
 use Rattle.std.specs.Prelude.{◌≡◌, ℕ, Bool, true, false, List, [], map, Option, None, Some, IfSome, is_some, length}
 use Rattle.std.specs.List.{AllByRecursion}
 use Rattle.brd_queue.specs.declared.entry.QueueEntry.{QueueEntry}
@@ -25,6 +26,8 @@ use Rattle.brd_objects.specs.Semaphores.{has_one}
 use Rattle.brd_objects.specs.Waiters.{satisfies, WantBits}
 use Rattle.brd_objects.specs.DataQueues.{DataQueueState, has_room}
 use Rattle.brd_objects.specs.Mutexes.{protocol_order}
+use Rattle.brd_objects.specs.Pools.{PoolState, block_for}
+use Rattle.brd_objects.specs.Mailboxes.{MailboxState, next_message}
 use Rattle.brd_kernel.specs.Kernel.{KernelState}
 use Rattle.brd_kernel.specs.Waits.{reason_of}
 use Rattle.brd_kernel.specs.Services.{is_asleep}
@@ -53,6 +56,14 @@ abbrev pub mutex_waiters : Option Mutex → List Plain
 mutex_waiters None = []
 mutex_waiters (Some m) = m.waiters
 
+abbrev pub pool_waiters : Option PoolState → List Plain
+pool_waiters None = []
+pool_waiters (Some p) = p.waiters
+
+abbrev pub mailbox_waiters : Option MailboxState → List Plain
+mailbox_waiters None = []
+mailbox_waiters (Some m) = m.waiters
+
 -- the list of those who wait for an object
 abbrev pub waiters_of : KernelState → WaitKind → ℕ → List Plain
 waiters_of k kind.Semaphore object = semaphore_waiters (object_at k.semaphores object)
@@ -60,6 +71,8 @@ waiters_of k kind.Flag object = flag_waiters (object_at k.flags object)
 waiters_of k kind.Room object = senders (object_at k.queues object)
 waiters_of k kind.Datum object = receivers (object_at k.queues object)
 waiters_of k kind.Mutex object = mutex_waiters (object_at k.mutexes object)
+waiters_of k kind.Block object = pool_waiters (object_at k.pools object)
+waiters_of k kind.Message object = mailbox_waiters (object_at k.mailboxes object)
 
 -- the list of those who wait for something: a sleep and a delay have none
 abbrev pub standing_for : KernelState → WaitReason → List Plain
@@ -111,6 +124,16 @@ pub record MutexIsKept (m : Mutex) : Type 0 where
   -- while nobody has it, no task waits
   pub lacking : m.owner ≡ None → m.waiters ≡ []
 
+pub record PoolIsKept (p : PoolState) : Type 0 where
+  pub ordered : AreInOrder p.order p.waiters
+  -- while a block is there, no task waits
+  pub lacking : is_some (block_for p) ≡ true → p.waiters ≡ []
+
+pub record MailboxIsKept (m : MailboxState) : Type 0 where
+  pub ordered : AreInOrder m.order m.waiters
+  -- while a message is there, no task waits
+  pub lacking : is_some (next_message m) ≡ true → m.waiters ≡ []
+
 -- Each task is so, and each object.
 pub record EachIsKept (k : KernelState) : Type 0 where
   pub sleepers : (id : ℕ) → IfSome (task_at k.tasks id) (λ task. SleeperIsKept task)
@@ -118,6 +141,8 @@ pub record EachIsKept (k : KernelState) : Type 0 where
   pub flags : (id : ℕ) → IfSome (object_at k.flags id) (λ f. FlagIsKept f)
   pub queues : (id : ℕ) → IfSome (object_at k.queues id) (λ q. QueueIsKept q)
   pub mutexes : (id : ℕ) → IfSome (object_at k.mutexes id) (λ m. MutexIsKept m)
+  pub pools : (id : ℕ) → IfSome (object_at k.pools id) (λ p. PoolIsKept p)
+  pub mailboxes : (id : ℕ) → IfSome (object_at k.mailboxes id) (λ m. MailboxIsKept m)
 
 pub record WaitsAreKept (k : KernelState) : Type 0 where
   -- each ID from 0 to 255 has a row and a due tick, or None

@@ -27,6 +27,8 @@ use Rattle.brd_objects.specs.Semaphores.{semaphore_left, semaphore_reordered}
 use Rattle.brd_objects.specs.Flags.{flag_left, flag_reordered}
 use Rattle.brd_objects.specs.DataQueues.{DataQueueState, data_queue_left, data_queue_reordered}
 use Rattle.brd_objects.specs.Mutexes.{is_owned_by, given, next_owner_in, mutex_left, mutex_reordered}
+use Rattle.brd_objects.specs.Pools.{PoolState, pool_left, pool_reordered}
+use Rattle.brd_objects.specs.Mailboxes.{MailboxState, mailbox_left, mailbox_reordered}
 use Rattle.brd_kernel.specs.declared.processor.Processor.{Processor}
 use Rattle.brd_kernel.specs.declared.call.Ercd.TheVariants.{Tmout}
 use Rattle.brd_kernel.specs.Answer.{e_ok, code_of}
@@ -87,6 +89,8 @@ pub record Change : Type 0 where
   pub flag : Flag → Flag
   pub queue : DataQueueState → DataQueueState
   pub mutex : Mutex → Mutex
+  pub pool : PoolState → PoolState
+  pub mailbox : MailboxState → MailboxState
 
 abbrev pub changed_of : Change → KernelState → WaitKind → KernelState
 changed_of change k kind.Semaphore = record k { semaphores = objects_changed change.semaphore k.semaphores }
@@ -94,6 +98,8 @@ changed_of change k kind.Flag = record k { flags = objects_changed change.flag k
 changed_of change k kind.Room = record k { queues = objects_changed change.queue k.queues }
 changed_of change k kind.Datum = record k { queues = objects_changed change.queue k.queues }
 changed_of change k kind.Mutex = record k { mutexes = objects_changed change.mutex k.mutexes }
+changed_of change k kind.Block = record k { pools = objects_changed change.pool k.pools }
+changed_of change k kind.Message = record k { mailboxes = objects_changed change.mailbox k.mailboxes }
 
 -- a sleep and a delay have no list
 abbrev pub changed_for : Change → KernelState → Option WaitReason → KernelState
@@ -106,7 +112,14 @@ changed_for change k (Some (reason.On what object)) = changed_of change k what
 
 abbrev pub leaving : ℕ → Change
 leaving id =
-    record { semaphore = semaphore_left id; flag = flag_left id; queue = data_queue_left id; mutex = mutex_left id }
+    record {
+      semaphore = semaphore_left id;
+      flag = flag_left id;
+      queue = data_queue_left id;
+      mutex = mutex_left id;
+      pool = pool_left id;
+      mailbox = mailbox_left id;
+    }
 
 abbrev pub unlisted_from : KernelState → ℕ → Option WaitReason → KernelState
 unlisted_from k id why = changed_for (leaving id) k why
@@ -132,6 +145,8 @@ moving id priority =
       flag = flag_reordered id priority;
       queue = data_queue_reordered id priority;
       mutex = mutex_reordered id priority;
+      pool = pool_reordered id priority;
+      mailbox = mailbox_reordered id priority;
     }
 
 abbrev pub reordered_in : KernelState → ℕ → ℕ → Option WaitReason → KernelState
@@ -220,6 +235,8 @@ inheritor_of k kind.Semaphore object = None
 inheritor_of k kind.Flag object = None
 inheritor_of k kind.Room object = None
 inheritor_of k kind.Datum object = None
+inheritor_of k kind.Block object = None
+inheritor_of k kind.Message object = None
 
 abbrev pub inheritor_for : KernelState → Option WaitReason → Option ℕ
 inheritor_for k None = None

@@ -110,6 +110,18 @@ pub enum Call {
     UnlMtx(u32),
     /// Tells a word of what is known of a mutex (ID, word).
     RefMtx(u32, u32),
+    /// Takes a block of a fixed memory pool (ID, timeout).
+    TgetMpf(u32, u32),
+    /// Gives a block of a fixed memory pool back (ID, block).
+    RelMpf(u32, u32),
+    /// Sends a message to a mailbox (ID, message, priority).
+    SndMbx(u32, u32, u32),
+    /// Receives a message from a mailbox (ID, timeout).
+    TrcvMbx(u32, u32),
+    /// Tells a word of what is known of a fixed memory pool (ID, word).
+    RefMpf(u32, u32),
+    /// Tells a word of what is known of a mailbox (ID, word).
+    RefMbx(u32, u32),
 }
 
 /// A state of the processor that a call comes from.

@@ -31,8 +31,10 @@ ghost use Rattle.std.specs.Borrow.{sem};
 ghost use Rattle.brd_kernel.specs.Lending.{LendsContext};
 
 mod interrupts;
+mod mailboxes;
 mod mutexes;
 mod objects;
+mod pools;
 mod processors;
 mod profile;
 mod saved;
@@ -44,9 +46,11 @@ use crate::common::Common;
 use crate::making::{idle_processors, lines_of, no_contexts, spin_locks_of};
 use crate::processor::{Executor, LineSetup, Marks, Processor, Spin, Standing, holder};
 use brd_base::{NoMemory, same_slices};
-use brd_config::{FlagConfig, MutexConfig, QueueConfig, SemaphoreConfig, SpinLockConfig};
+use brd_config::{
+    FlagConfig, MailboxConfig, MutexConfig, QueueConfig, SemaphoreConfig, SpinLockConfig,
+};
 use brd_exec::Context;
-use brd_objects::{Flags, Mutexes, Queues, Semaphores};
+use brd_objects::{Flags, Mailboxes, Mutexes, PoolSetup, Pools, Queues, Semaphores};
 use brd_tasks::{Request, TaskId, TaskSetup, TaskView, Tasks};
 use brd_time::Timeouts;
 pub use saved::SavedKernel;
@@ -64,6 +68,8 @@ pub struct Kernel {
     flags: Flags,
     queues: Queues,
     mutexes: Mutexes,
+    pools: Pools,
+    mailboxes: Mailboxes,
 }
 
 impl Model for Kernel {
@@ -74,9 +80,10 @@ impl Model for Kernel {
 
     ghost Value = { KernelState };
 
-    ghost view = { λ k. kernel_of k.common k.semaphores k.flags k.queues k.mutexes };
+    ghost view = { λ k. kernel_of k.common k.semaphores k.flags k.queues k.mutexes k.pools k.mailboxes };
 
-    ghost invariant = { λ k. IsCommon k.common (kernel_of k.common k.semaphores k.flags k.queues k.mutexes)
+    ghost invariant = { λ k.
+        IsCommon k.common (kernel_of k.common k.semaphores k.flags k.queues k.mutexes k.pools k.mailboxes)
         × (console_size ≤ vec_capacity k.common.console) };
 }
 
@@ -89,6 +96,8 @@ impl Drop for Kernel {
             flags: _,
             queues: _,
             mutexes: _,
+            pools: _,
+            mailboxes: _,
         } = self;
     }
 }
@@ -107,13 +116,15 @@ impl Kernel {
         queues: &[QueueConfig],
         spin_locks: &[SpinLockConfig],
         mutexes: &[MutexConfig],
+        pools: &[PoolSetup],
+        mailboxes: &[MailboxConfig],
     ) -> Result<Kernel, NoMemory>
         requires few { processors ≤ 8 }
         requires setups { All IsSetup tasks.now }
         ensures { IfOk result
             (λ kernel. kernel
             ≡ made_kernel standard processors tasks.now lines.now semaphores.now flags.now queues.now spin_locks.now
-            mutexes.now) }
+            mutexes.now pools.now mailboxes.now) }
     {
         Ok(Kernel {
             common: Common {
@@ -134,6 +145,8 @@ impl Kernel {
             flags: Flags::new(alloc, flags)?,
             queues: Queues::new(alloc, queues)?,
             mutexes: Mutexes::new(alloc, mutexes)?,
+            pools: Pools::new(alloc, pools)?,
+            mailboxes: Mailboxes::new(alloc, mailboxes)?,
         })
     }
 
@@ -147,6 +160,8 @@ impl Kernel {
             flags: self.flags.try_copy()?,
             queues: self.queues.try_copy()?,
             mutexes: self.mutexes.try_copy()?,
+            pools: self.pools.try_copy()?,
+            mailboxes: self.mailboxes.try_copy()?,
         })
     }
 
@@ -172,7 +187,8 @@ impl Kernel {
         ensures { Decides result ((self.now.time ≡ other.now.time) × (self.now.tasks ≡ other.now.tasks)
             × (self.now.semaphores ≡ other.now.semaphores) × (self.now.flags ≡ other.now.flags)
             × (self.now.queues ≡ other.now.queues) × (self.now.spin_locks ≡ other.now.spin_locks)
-            × (self.now.mutexes ≡ other.now.mutexes)) }
+            × (self.now.mutexes ≡ other.now.mutexes) × (self.now.pools ≡ other.now.pools)
+            × (self.now.mailboxes ≡ other.now.mailboxes)) }
     {
         self.common.time.same(&other.common.time)
             && self.common.tasks.same(&other.common.tasks)
@@ -183,7 +199,8 @@ impl Kernel {
     fn has_same_objects(&self, other: &Kernel) -> bool
         ensures { Decides result ((self.now.semaphores ≡ other.now.semaphores) × (self.now.flags ≡ other.now.flags)
             × (self.now.queues ≡ other.now.queues) × (self.now.spin_locks ≡ other.now.spin_locks)
-            × (self.now.mutexes ≡ other.now.mutexes)) }
+            × (self.now.mutexes ≡ other.now.mutexes) × (self.now.pools ≡ other.now.pools)
+            × (self.now.mailboxes ≡ other.now.mailboxes)) }
     {
         self.semaphores.same(&other.semaphores)
             && self.flags.same(&other.flags)
@@ -193,6 +210,8 @@ impl Kernel {
                 other.common.spin_locks.as_slice(),
             )
             && self.mutexes.same(&other.mutexes)
+            && self.pools.same(&other.pools)
+            && self.mailboxes.same(&other.mailboxes)
     }
 
     /// Whether both have the same processors, lines and console.

@@ -8,6 +8,8 @@ ghost use Rattle.brd_config.specs.declared.objects.FlagConfig.{FlagConfig};
 ghost use Rattle.brd_config.specs.declared.objects.QueueConfig.{QueueConfig};
 ghost use Rattle.brd_config.specs.declared.objects.SpinLockConfig.{SpinLockConfig};
 ghost use Rattle.brd_config.specs.declared.objects.MutexConfig.{MutexConfig};
+ghost use Rattle.brd_config.specs.declared.objects.MailboxConfig.{MailboxConfig};
+ghost use Rattle.brd_objects.specs.declared.block.PoolSetup.{PoolSetup};
 ghost use Rattle.brd_kernel.specs.declared.processor.LineSetup.{LineSetup as LineOf};
 ghost use Rattle.brd_kernel.specs.declared.processor.Processor.{Processor as ProcessorOf};
 ghost use Rattle.brd_kernel.specs.Kernel.{KernelState, processor_at, is_held};
@@ -40,15 +42,17 @@ pub fn dispatch_gives_each_its_first()
 {}
 
 /// This holds of a kernel as it is made, and every service call, tick and exception keeps it: each task that waits for
-/// a semaphore, for bits of an event flag, for a mutex, or to send to or receive from a data queue stands once, with
-/// its priority, in the waiting list for just that, and in no other waiting list of an object; if that list is in the
-/// order of priority, no task stands in front of one with a higher priority; no task waits for something that it could
-/// have at once; only a task that waits has a due tick, and a delay has one.
+/// a semaphore, for bits of an event flag, for a mutex, for a block of a memory pool, for a message of a mailbox, or to
+/// send to or receive from a data queue stands once, with its priority, in the waiting list for just that, and in no
+/// other waiting list of an object; where that list is in the order of priority, no task stands in front of one with a
+/// higher priority; no task waits for something that it could have at once; only a task that waits has a due tick, and a
+/// delay has one.
 pub fn who_waits_stands_in_its_list()
     ensures made { (standard : Bool) (processors : ℕ) (setups : List SetupOf) (lines : List LineOf)
         (semaphores : List SemaphoreConfig) (flags : List FlagConfig) (queues : List QueueConfig)
-        (spin_locks : List SpinLockConfig) (mutexes : List MutexConfig) →
-        WaitsAreKept (made_kernel standard processors setups lines semaphores flags queues spin_locks mutexes) }
+        (spin_locks : List SpinLockConfig) (mutexes : List MutexConfig) (pools : List PoolSetup)
+        (mailboxes : List MailboxConfig) →
+        WaitsAreKept (made_kernel standard processors setups lines semaphores flags queues spin_locks mutexes pools mailboxes) }
     ensures call { (k : KernelState) (cpu : ℕ) (asked : CallOf) → WaitsAreKept k →
         WaitsAreKept (serve_of k cpu asked).kernel }
     ensures tick { (k : KernelState) → WaitsAreKept k → WaitsAreKept (ticked k) }
@@ -69,8 +73,9 @@ pub fn the_profile_stays()
 pub fn a_spin_lock_has_one_holder()
     ensures made { (standard : Bool) (processors : ℕ) (setups : List SetupOf) (lines : List LineOf)
         (semaphores : List SemaphoreConfig) (flags : List FlagConfig) (queues : List QueueConfig)
-        (spin_locks : List SpinLockConfig) (mutexes : List MutexConfig) →
-        AreLocks (made_kernel standard processors setups lines semaphores flags queues spin_locks mutexes) }
+        (spin_locks : List SpinLockConfig) (mutexes : List MutexConfig) (pools : List PoolSetup)
+        (mailboxes : List MailboxConfig) →
+        AreLocks (made_kernel standard processors setups lines semaphores flags queues spin_locks mutexes pools mailboxes) }
     ensures tick { (k : KernelState) → AreLocks k → AreLocks (ticked k) }
     ensures fault { (k : KernelState) (cpu : ℕ) → AreLocks k → AreLocks (ended_by_fault k cpu) }
     ensures dispatch { (k : KernelState) → AreLocks k → AreLocks (dispatched k) }

@@ -1,17 +1,14 @@
 -- The calls of every board, and those of the profile beside them.
-use Rattle.std.proofs.Common.{◌≡◌, ◌<◌, ◌≤◌, ℕ, Bool, true, false, List, [], ◌∷◌, ◌++◌, refl, sym, ap, subst, ◌∙◌, arith}
-use Rattle.std.specs.Prelude.{◌==◌, ◌&&◌, nat_lt, if◌then◌else◌, find, Option, None, Some, Result, Err}
+use Rattle.std.proofs.Common.{◌≡◌, ◌<◌, ◌≤◌, ℕ, Bool, true, false, List, [], ◌∷◌, refl, ap, ◌∙◌, arith}
+use Rattle.std.specs.Prelude.{◌==◌, nat_lt, if◌then◌else◌, Option, None, Some, Err}
 use Rattle.std.specs.Option.{option_map, option_or}
 use Rattle.std.proofs.lemmas.Bool.{and_parts}
 use Rattle.std.proofs.lemmas.Bool.Decides.{nat_tests}
 use Rattle.std.proofs.lemmas.List.Folds.{find-append}
 use Rattle.brd_exec.specs.State.{State, read}
-use Rattle.brd_kernel.specs.declared.call.Call.{Call}
-use Rattle.brd_kernel.specs.declared.call.Ercd.{Ercd}
 use Rattle.brd_kernel.specs.declared.call.Ercd.TheVariants.{Rsfn}
 use Rattle.brd_sysgate.specs.declared.gate.Agent.{Agent}
 use Rattle.brd_sysgate.specs.declared.gate.Caller.{Caller}
-use Rattle.brd_sysgate.specs.declared.place.Asked.{Asked}
 use Rattle.brd_sysgate.specs.Gate.{Service, plain_table, profile_table, table, table_of, row_in, name_in, name_of, asked_in, asked, is_above, are_below, arguments_of, allowed, read_of}
 
 -- what is found of a call: among those of every board, or else among those of the profile

@@ -138,6 +138,17 @@ profile_table =
     ∷ service 79 (codes "tloc_mtx") 2 place.Waiting (λ a. call.TlocMtx (a0 a) (a1 a))
     ∷ service 80 (codes "unl_mtx") 1 place.Task (λ a. call.UnlMtx (a0 a))
     ∷ service 81 (codes "ref_mtx") 2 place.Task (λ a. call.RefMtx (a0 a) (a1 a))
+    ∷ service 82 (codes "get_mpf") 1 place.Waiting (λ a. call.TgetMpf (a0 a) forever)
+    ∷ service 83 (codes "pget_mpf") 1 place.Task (λ a. call.TgetMpf (a0 a) poll)
+    ∷ service 84 (codes "tget_mpf") 2 place.Waiting (λ a. call.TgetMpf (a0 a) (a1 a))
+    ∷ service 85 (codes "rel_mpf") 2 place.Task (λ a. call.RelMpf (a0 a) (a1 a))
+    ∷ service 86 (codes "snd_mbx") 3 place.Task (λ a. call.SndMbx (a0 a) (a1 a) (a2 a))
+    ∷ service 87 (codes "isnd_mbx") 3 place.Handler (λ a. call.SndMbx (a0 a) (a1 a) (a2 a))
+    ∷ service 88 (codes "rcv_mbx") 1 place.Waiting (λ a. call.TrcvMbx (a0 a) forever)
+    ∷ service 89 (codes "prcv_mbx") 1 place.Task (λ a. call.TrcvMbx (a0 a) poll)
+    ∷ service 90 (codes "trcv_mbx") 2 place.Waiting (λ a. call.TrcvMbx (a0 a) (a1 a))
+    ∷ service 91 (codes "ref_mpf") 2 place.Task (λ a. call.RefMpf (a0 a) (a1 a))
+    ∷ service 92 (codes "ref_mbx") 2 place.Task (λ a. call.RefMbx (a0 a) (a1 a))
     ∷ service 112 (codes "iget_pid") 0 place.Handler (λ a. call.GetPid)
     ∷ []
 

@@ -194,7 +194,7 @@ fn profile_service(number: u32, arguments: [u32; 4]) -> Option<Service>
     ensures is { option_map (λ s. s.asked) result ≡ asked_in profile_table number arguments }
     ensures named { option_map (λ s. (s.name.now, s.takes)) result ≡ name_in profile_table number }
 {
-    let [a0, a1, _, _] = arguments;
+    let [a0, a1, a2, _] = arguments;
     let (name, takes, place, call): (&'static [u8], u8, Place, Call) = match number {
         64 => (b"get_tim", 0, Place::Task, Call::GetTim),
         65 => (b"set_tim", 1, Place::Task, Call::SetTim(a0)),
@@ -214,6 +214,17 @@ fn profile_service(number: u32, arguments: [u32; 4]) -> Option<Service>
         79 => (b"tloc_mtx", 2, Place::Waiting, Call::TlocMtx(a0, a1)),
         80 => (b"unl_mtx", 1, Place::Task, Call::UnlMtx(a0)),
         81 => (b"ref_mtx", 2, Place::Task, Call::RefMtx(a0, a1)),
+        82 => (b"get_mpf", 1, Place::Waiting, Call::TgetMpf(a0, FOREVER)),
+        83 => (b"pget_mpf", 1, Place::Task, Call::TgetMpf(a0, POLL)),
+        84 => (b"tget_mpf", 2, Place::Waiting, Call::TgetMpf(a0, a1)),
+        85 => (b"rel_mpf", 2, Place::Task, Call::RelMpf(a0, a1)),
+        86 => (b"snd_mbx", 3, Place::Task, Call::SndMbx(a0, a1, a2)),
+        87 => (b"isnd_mbx", 3, Place::Handler, Call::SndMbx(a0, a1, a2)),
+        88 => (b"rcv_mbx", 1, Place::Waiting, Call::TrcvMbx(a0, FOREVER)),
+        89 => (b"prcv_mbx", 1, Place::Task, Call::TrcvMbx(a0, POLL)),
+        90 => (b"trcv_mbx", 2, Place::Waiting, Call::TrcvMbx(a0, a1)),
+        91 => (b"ref_mpf", 2, Place::Task, Call::RefMpf(a0, a1)),
+        92 => (b"ref_mbx", 2, Place::Task, Call::RefMbx(a0, a1)),
         112 => (b"iget_pid", 0, Place::Handler, Call::GetPid),
         _ => return None,
     };

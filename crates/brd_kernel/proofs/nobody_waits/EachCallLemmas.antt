@@ -16,15 +16,19 @@ use Rattle.brd_kernel.specs.declared.call.Call.{Call}
 use Rattle.brd_kernel.specs.Answer.{e_ok}
 use Rattle.brd_kernel.specs.Kernel.{KernelState, with_tasks, processor_at, unmarked}
 use Rattle.brd_kernel.specs.Waits.{reason_in, quits_in}
-use Rattle.brd_kernel.specs.Services.{is_sleep, is_asleep, unmarked_on, handler_ended, serve_of, caller_on, callers_priority}
+use Rattle.brd_kernel.specs.Services.{is_sleep, is_asleep, unmarked_on, handler_ended, serve_of, caller_on, callers_priority, released_with_second, message_of}
 use Rattle.brd_kernel.specs.Waiting.{SleeperIsKept, EachIsKept}
 use Rattle.brd_kernel.proofs.nobody_waits.ObjectLemmas.{returned-kept, taken-kept, semaphore-awaited, masked-kept, taken-for, flag-awaited, sent-kept, forced-kept, received-kept, sender-awaited, receiver-awaited, mutex-owned, mutex-awaited}
 use Rattle.brd_kernel.proofs.who_waits.RowLemmas.{suspended-keeps, resumed-keeps}
 use Rattle.brd_kernel.proofs.nobody_waits.SleeperLemmas as sleeper
-use Rattle.brd_kernel.proofs.WalkLemmas.{Anything, Law, Lacks, No-one, No-bits, No-room, No-datum, lacked, awaiting, serve-always, No-mutex}
+use Rattle.brd_kernel.proofs.WalkLemmas.{Anything, Law, Lacks, No-one, No-bits, No-room, No-datum, lacked, awaiting, serve-always, No-mutex, No-block, No-message}
 use Rattle.brd_kernel.proofs.nobody_waits.EachLemmas.{others-kept, processor-kept, tasks-kept, semaphore-changed, flag-changed, queue-changed, released-kept, broken-kept, wait-kept, no-sleep, released-if, set-stays, handed-kept, quits-kept, priced-kept, mutex-changed, given-kept, prioritized-kept}
 use Rattle.brd_objects.specs.declared.mutex.Mutex.{Mutex}
 use Rattle.brd_objects.specs.Mutexes.{owned, mutex_awaited}
+use Rattle.brd_objects.specs.Pools.{block_for_in, handed_out, given_back, next_holder, pool_awaited}
+use Rattle.brd_objects.specs.Mailboxes.{message_sent, message_outcome, message_received, next_message_in, mailbox_awaited}
+use Rattle.brd_kernel.proofs.nobody_waits.ObjectLemmas.{pool-handed, pool-given, pool-awaited, mailbox-sent, mailbox-received, mailbox-awaited}
+use Rattle.brd_kernel.proofs.nobody_waits.EachLemmas.{pool-changed, mailbox-changed}
 
 -- a task that is awake has a wake-up queued
 
@@ -68,6 +72,17 @@ entered-kept k caller id (No-datum q there none) was =
 entered-kept k caller id (No-mutex m there held) was =
     let p : ℕ = callers_priority k caller in
     mutex-changed (mutex_awaited caller p) k id (λ x at. mutex-awaited caller p x (ap has_owner_in (sym at ∙ there) ∙ held)) was
+entered-kept k caller id (No-block p there none) was =
+    let own : ℕ = callers_priority k caller in
+    pool-changed (pool_awaited caller own) k id (λ x at. pool-awaited caller own x (ap block_for_in (sym at ∙ there) ∙ none)) was
+entered-kept k caller id (No-message m there none) was =
+    let own : ℕ = callers_priority k caller in
+    mailbox-changed (mailbox_awaited caller own) k id (λ x at. mailbox-awaited caller own x (ap next_message_in (sym at ∙ there) ∙ none)) was
+
+-- a task, if it is one, is released with a second result
+released-second : (k : KernelState) (second : ℕ) (first : Option ℕ) → EachIsKept k → EachIsKept (released_with_second k second first)
+released-second k second None was = was
+released-second k second (Some id) was = released-kept k id e_ok (Some second) was
 
 each-law : (k : KernelState) (cpu caller : ℕ) → EachIsKept k → Law Anything EachIsKept k cpu caller
 each-law k cpu caller was =
@@ -98,7 +113,7 @@ each-law k cpu caller was =
       delays = λ due may. wait-kept k caller reason.Delay (Some due) k (no-sleep k caller reason.Delay refl) was was;
       rotates = λ on given p there. tasks-kept k (turned k.tasks on given) was.sleepers was;
       marks = λ p q there same how. processor-kept k cpu q was;
-      returns = λ p there. others-kept k (handler_ended k cpu p) refl refl refl refl was.sleepers was;
+      returns = λ p there. others-kept k (handler_ended k cpu p) refl refl refl refl refl refl was.sleepers was;
       signals = λ id s there. released-if (record k { semaphores = object_changed returned k.semaphores id }) (first_waiter s)
           (semaphore-changed returned k id (λ x at. returned-kept x) was);
       takes = λ id s there. semaphore-changed taken k id (λ x at. taken-kept x) was;
@@ -113,11 +128,18 @@ each-law k cpu caller was =
           (queue-changed received k id (λ x at. received-kept x) was);
       locks = λ id m there. mutex-changed (owned caller) k id (λ x at. mutex-owned caller x) was;
       gives = λ id m there. given-kept k id was;
+      hands-out = λ id p block there is. pool-changed handed_out k id (λ x at. pool-handed x) was;
+      gives-back = λ id block p there. released-second (record k { pools = object_changed (given_back block) k.pools id }) block (next_holder block p)
+          (pool-changed (given_back block) k id (λ x at. pool-given block x) was);
+      posts = λ id address priority m there.
+          handed-kept (record k { mailboxes = object_changed (message_sent (message_of address priority)) k.mailboxes id }) address (message_outcome m)
+          (mailbox-changed (message_sent (message_of address priority)) k id (λ x at. mailbox-sent (message_of address priority) x) was);
+      fetches = λ id m address there is. mailbox-changed message_received k id (λ x at. mailbox-received x) was;
       awaits = λ id due lacks may. wait-kept k caller (reason.On (lacked lacks) id) due (awaiting k caller id lacks)
           (no-sleep k caller (reason.On (lacked lacks) id) refl) was (entered-kept k caller id lacks was);
-      writes = λ word. others-kept k (record k { console = k.console ++ word % 2 ^ 8 ∷ [] }) refl refl refl refl was.sleepers was;
-      ends_all = others-kept k (record k { off = true }) refl refl refl refl was.sleepers was;
-      sets_clock = λ clock. others-kept k (record k { clock = clock }) refl refl refl refl was.sleepers was;
+      writes = λ word. others-kept k (record k { console = k.console ++ word % 2 ^ 8 ∷ [] }) refl refl refl refl refl refl was.sleepers was;
+      ends_all = others-kept k (record k { off = true }) refl refl refl refl refl refl was.sleepers was;
+      sets_clock = λ clock. others-kept k (record k { clock = clock }) refl refl refl refl refl refl was.sleepers was;
     }
 
 pub serve-kept : (k : KernelState) (cpu : ℕ) (c : Call) → EachIsKept k → EachIsKept (serve_of k cpu c).kernel

@@ -23,13 +23,15 @@ use Rattle.brd_kernel.specs.Kernel.{KernelState, with_tasks, with_processor, pro
 use Rattle.brd_kernel.specs.Waits.{Change, changed_of, changed_for, leaving, moving, can_wait, with_wait, released_in, reason_of, unlisted_from, unlisted, broken_off, ended_in, reordered_in, answer_by, timed_out, all_timed_out, ticked_on, faulted_task, faulted_in, ended_by_fault, with_released, given_in, all_given_in, quits_in, prioritized}
 use Rattle.brd_kernel.specs.Services as table
 use Rattle.brd_kernel.specs.Services.{is_sleep, or_waits, with_all_released_in, with_satisfied_of, handed_over}
-use Rattle.brd_kernel.specs.Waiting.{SemaphoreIsKept, FlagIsKept, QueueIsKept, EachIsKept, MutexIsKept}
+use Rattle.brd_kernel.specs.Waiting.{SemaphoreIsKept, FlagIsKept, QueueIsKept, EachIsKept, MutexIsKept, PoolIsKept, MailboxIsKept}
 use Rattle.brd_kernel.proofs.who_waits.ListLemmas.{either}
 use Rattle.brd_kernel.proofs.nobody_waits.TableLemmas.{one-keeps, all-keep, changed-twice, changed-there}
-use Rattle.brd_kernel.proofs.nobody_waits.ObjectLemmas.{semaphore-left, semaphore-reordered, flag-left, flag-reordered, set-kept, queue-left, queue-reordered, mutex-given, mutex-left, mutex-reordered}
+use Rattle.brd_kernel.proofs.nobody_waits.ObjectLemmas.{semaphore-left, semaphore-reordered, flag-left, flag-reordered, set-kept, queue-left, queue-reordered, mutex-given, mutex-left, mutex-reordered, pool-left, pool-reordered, mailbox-left, mailbox-reordered}
 use Rattle.brd_kernel.proofs.nobody_waits.SleeperLemmas.{AreKept}
 use Rattle.brd_kernel.proofs.nobody_waits.SleeperLemmas as sleeper
 use Rattle.brd_objects.specs.declared.mutex.Mutex.{Mutex}
+use Rattle.brd_objects.specs.Pools.{PoolState}
+use Rattle.brd_objects.specs.Mailboxes.{MailboxState}
 use Rattle.brd_objects.specs.Mutexes.{given, next_owner_in}
 use Rattle.brd_kernel.proofs.PricedLemmas.{priced, priced_in}
 use Rattle.brd_kernel.proofs.SettledLemmas.{Settles, all-given, all-prioritized}
@@ -38,22 +40,24 @@ use Rattle.brd_tasks.specs.Status.{waiting_of}
 -- Objects and tasks that are changed.
 
 -- the objects stay
-pub others-kept : (k new : KernelState) → new.semaphores ≡ k.semaphores → new.flags ≡ k.flags → new.queues ≡ k.queues → new.mutexes ≡ k.mutexes →
+pub others-kept : (k new : KernelState) → new.semaphores ≡ k.semaphores → new.flags ≡ k.flags → new.queues ≡ k.queues → new.mutexes ≡ k.mutexes → new.pools ≡ k.pools → new.mailboxes ≡ k.mailboxes →
     AreKept new.tasks → EachIsKept k →
     EachIsKept new
-others-kept k new semaphores flags queues mutexes sleepers was = record {
+others-kept k new semaphores flags queues mutexes pools mailboxes sleepers was = record {
   sleepers = sleepers;
   semaphores = λ id. subst (λ (t : Table Semaphore). IfSome (object_at t id) (λ s. SemaphoreIsKept s)) (sym semaphores) (was.semaphores id);
   flags = λ id. subst (λ (t : Table Flag). IfSome (object_at t id) (λ f. FlagIsKept f)) (sym flags) (was.flags id);
   queues = λ id. subst (λ (t : Table DataQueueState). IfSome (object_at t id) (λ q. QueueIsKept q)) (sym queues) (was.queues id);
   mutexes = λ id. subst (λ (t : Table Mutex). IfSome (object_at t id) (λ m. MutexIsKept m)) (sym mutexes) (was.mutexes id);
+  pools = λ id. subst (λ (t : Table PoolState). IfSome (object_at t id) (λ p. PoolIsKept p)) (sym pools) (was.pools id);
+  mailboxes = λ id. subst (λ (t : Table MailboxState). IfSome (object_at t id) (λ m. MailboxIsKept m)) (sym mailboxes) (was.mailboxes id);
 }
 
 pub tasks-kept : (k : KernelState) (t : TaskTable) → AreKept t → EachIsKept k → EachIsKept (with_tasks k t)
-tasks-kept k t sleepers was = others-kept k (with_tasks k t) refl refl refl refl sleepers was
+tasks-kept k t sleepers was = others-kept k (with_tasks k t) refl refl refl refl refl refl sleepers was
 
 pub processor-kept : (k : KernelState) (cpu : ℕ) (p : Processor) → EachIsKept k → EachIsKept (with_processor k cpu p)
-processor-kept k cpu p was = others-kept k (with_processor k cpu p) refl refl refl refl was.sleepers was
+processor-kept k cpu p was = others-kept k (with_processor k cpu p) refl refl refl refl refl refl was.sleepers was
 
 pub semaphore-changed : (f : Semaphore → Semaphore) (k : KernelState) (id : ℕ) →
     ((s : Semaphore) → object_at k.semaphores id ≡ Some s → SemaphoreIsKept s → SemaphoreIsKept (f s)) → EachIsKept k →
@@ -64,6 +68,8 @@ semaphore-changed f k id keeps was = record {
   flags = was.flags;
   queues = was.queues;
   mutexes = was.mutexes;
+  pools = was.pools;
+  mailboxes = was.mailboxes;
 }
 
 pub flag-changed : (f : Flag → Flag) (k : KernelState) (id : ℕ) → ((g : Flag) → object_at k.flags id ≡ Some g → FlagIsKept g → FlagIsKept (f g)) →
@@ -75,6 +81,8 @@ flag-changed f k id keeps was = record {
   flags = λ at. one-keeps (λ g. FlagIsKept g) f k.flags id at keeps was.flags;
   queues = was.queues;
   mutexes = was.mutexes;
+  pools = was.pools;
+  mailboxes = was.mailboxes;
 }
 
 pub queue-changed : (f : DataQueueState → DataQueueState) (k : KernelState) (id : ℕ) →
@@ -86,6 +94,8 @@ queue-changed f k id keeps was = record {
   flags = was.flags;
   queues = λ at. one-keeps (λ q. QueueIsKept q) f k.queues id at keeps was.queues;
   mutexes = was.mutexes;
+  pools = was.pools;
+  mailboxes = was.mailboxes;
 }
 
 pub mutex-changed : (f : Mutex → Mutex) (k : KernelState) (id : ℕ) →
@@ -97,6 +107,34 @@ mutex-changed f k id keeps was = record {
   flags = was.flags;
   queues = was.queues;
   mutexes = λ at. one-keeps (λ m. MutexIsKept m) f k.mutexes id at keeps was.mutexes;
+  pools = was.pools;
+  mailboxes = was.mailboxes;
+}
+
+pub pool-changed : (f : PoolState → PoolState) (k : KernelState) (id : ℕ) →
+    ((p : PoolState) → object_at k.pools id ≡ Some p → PoolIsKept p → PoolIsKept (f p)) → EachIsKept k →
+    EachIsKept (record k { pools = object_changed f k.pools id })
+pool-changed f k id keeps was = record {
+  sleepers = was.sleepers;
+  semaphores = was.semaphores;
+  flags = was.flags;
+  queues = was.queues;
+  mutexes = was.mutexes;
+  pools = λ at. one-keeps (λ p. PoolIsKept p) f k.pools id at keeps was.pools;
+  mailboxes = was.mailboxes;
+}
+
+pub mailbox-changed : (f : MailboxState → MailboxState) (k : KernelState) (id : ℕ) →
+    ((m : MailboxState) → object_at k.mailboxes id ≡ Some m → MailboxIsKept m → MailboxIsKept (f m)) → EachIsKept k →
+    EachIsKept (record k { mailboxes = object_changed f k.mailboxes id })
+mailbox-changed f k id keeps was = record {
+  sleepers = was.sleepers;
+  semaphores = was.semaphores;
+  flags = was.flags;
+  queues = was.queues;
+  mutexes = was.mutexes;
+  pools = was.pools;
+  mailboxes = λ at. one-keeps (λ m. MailboxIsKept m) f k.mailboxes id at keeps was.mailboxes;
 }
 
 -- a change that keeps each object
@@ -105,6 +143,8 @@ record KeepsEach (change : Change) : Type 0 where
   flag : (f : Flag) → FlagIsKept f → FlagIsKept (change.flag f)
   queue : (q : DataQueueState) → QueueIsKept q → QueueIsKept (change.queue q)
   mutex : (m : Mutex) → MutexIsKept m → MutexIsKept (change.mutex m)
+  pool : (p : PoolState) → PoolIsKept p → PoolIsKept (change.pool p)
+  mailbox : (m : MailboxState) → MailboxIsKept m → MailboxIsKept (change.mailbox m)
 
 queues-kept : (change : Change) (k : KernelState) → KeepsEach change → EachIsKept k → EachIsKept (record k { queues = objects_changed change.queue k.queues })
 queues-kept change k keeps was = record {
@@ -113,6 +153,8 @@ queues-kept change k keeps was = record {
   flags = was.flags;
   queues = λ at. all-keep (λ q. QueueIsKept q) change.queue k.queues at keeps.queue (was.queues at);
   mutexes = was.mutexes;
+  pools = was.pools;
+  mailboxes = was.mailboxes;
 }
 
 of-kept : (change : Change) (k : KernelState) (what : WaitKind) → KeepsEach change → EachIsKept k → EachIsKept (changed_of change k what)
@@ -122,6 +164,8 @@ of-kept change k kind.Semaphore keeps was = record {
   flags = was.flags;
   queues = was.queues;
   mutexes = was.mutexes;
+  pools = was.pools;
+  mailboxes = was.mailboxes;
 }
 of-kept change k kind.Flag keeps was = record {
   sleepers = was.sleepers;
@@ -129,6 +173,8 @@ of-kept change k kind.Flag keeps was = record {
   flags = λ at. all-keep (λ f. FlagIsKept f) change.flag k.flags at keeps.flag (was.flags at);
   queues = was.queues;
   mutexes = was.mutexes;
+  pools = was.pools;
+  mailboxes = was.mailboxes;
 }
 of-kept change k kind.Room keeps was = queues-kept change k keeps was
 of-kept change k kind.Datum keeps was = queues-kept change k keeps was
@@ -138,6 +184,26 @@ of-kept change k kind.Mutex keeps was = record {
   flags = was.flags;
   queues = was.queues;
   mutexes = λ at. all-keep (λ m. MutexIsKept m) change.mutex k.mutexes at keeps.mutex (was.mutexes at);
+  pools = was.pools;
+  mailboxes = was.mailboxes;
+}
+of-kept change k kind.Block keeps was = record {
+  sleepers = was.sleepers;
+  semaphores = was.semaphores;
+  flags = was.flags;
+  queues = was.queues;
+  mutexes = was.mutexes;
+  pools = λ at. all-keep (λ p. PoolIsKept p) change.pool k.pools at keeps.pool (was.pools at);
+  mailboxes = was.mailboxes;
+}
+of-kept change k kind.Message keeps was = record {
+  sleepers = was.sleepers;
+  semaphores = was.semaphores;
+  flags = was.flags;
+  queues = was.queues;
+  mutexes = was.mutexes;
+  pools = was.pools;
+  mailboxes = λ at. all-keep (λ m. MailboxIsKept m) change.mailbox k.mailboxes at keeps.mailbox (was.mailboxes at);
 }
 
 for-kept : (change : Change) (k : KernelState) (why : Option WaitReason) → KeepsEach change → EachIsKept k → EachIsKept (changed_for change k why)
@@ -148,26 +214,26 @@ for-kept change k _ keeps was = was
 
 unlisted-by : (k : KernelState) (id : ℕ) (why : Option WaitReason) → EachIsKept k → EachIsKept (unlisted_from k id why)
 unlisted-by k id why was =
-    for-kept (leaving id) k why (record { semaphore = semaphore-left id; flag = flag-left id; queue = queue-left id; mutex = mutex-left id }) was
+    for-kept (leaving id) k why (record { semaphore = semaphore-left id; flag = flag-left id; queue = queue-left id; mutex = mutex-left id; pool = pool-left id; mailbox = mailbox-left id }) was
 
 unlisted-kept : (k : KernelState) (id : ℕ) → EachIsKept k → EachIsKept (unlisted k id)
 unlisted-kept k id was = unlisted-by k id (reason_of k id) was
 
 pub released-kept : (k : KernelState) (id answer : ℕ) (second : Option ℕ) → EachIsKept k → EachIsKept (released_in k id answer second)
 released-kept k id answer second was =
-    others-kept k (released_in k id answer second) refl refl refl refl (sleeper.released-kept k.tasks id answer second was.sleepers) was
+    others-kept k (released_in k id answer second) refl refl refl refl refl refl (sleeper.released-kept k.tasks id answer second was.sleepers) was
 
 pub broken-kept : (k : KernelState) (id answer : ℕ) → EachIsKept k → EachIsKept (broken_off k id answer)
 broken-kept k id answer was = released-kept (unlisted k id) id answer None (unlisted-kept k id was)
 
 pub ended-kept : (k : KernelState) (id : ℕ) → EachIsKept k → EachIsKept (ended_in k id)
 ended-kept k id was =
-    others-kept (unlisted k id) (ended_in k id) refl refl refl refl (sleeper.ended-kept k.tasks id was.sleepers) (unlisted-kept k id was)
+    others-kept (unlisted k id) (ended_in k id) refl refl refl refl refl refl (sleeper.ended-kept k.tasks id was.sleepers) (unlisted-kept k id was)
 
 pub reordered-by : (k : KernelState) (id priority : ℕ) (why : Option WaitReason) → EachIsKept k → EachIsKept (reordered_in k id priority why)
 reordered-by k id priority why was =
     for-kept (moving id priority) k why
-    (record { semaphore = semaphore-reordered id priority; flag = flag-reordered id priority; queue = queue-reordered id priority; mutex = mutex-reordered id priority }) was
+    (record { semaphore = semaphore-reordered id priority; flag = flag-reordered id priority; queue = queue-reordered id priority; mutex = mutex-reordered id priority; pool = pool-reordered id priority; mailbox = mailbox-reordered id priority }) was
 
 -- a wait begins: of who begins to sleep no wake-up is queued
 abbrev MaySleep : KernelState → ℕ → WaitReason → Type 0
@@ -178,7 +244,7 @@ pub wait-kept : (k : KernelState) (id : ℕ) (why : WaitReason) (due : Option �
     EachIsKept (with_wait k id why due entered)
 wait-kept k id why due entered may was now =
     either EachIsKept (can_wait (task_at k.tasks id)) _ k
-    (others-kept entered _ refl refl refl refl (sleeper.blocked-kept why k.tasks id may was.sleepers) now) was
+    (others-kept entered _ refl refl refl refl refl refl (sleeper.blocked-kept why k.tasks id may was.sleepers) now) was
 
 pub no-sleep : (k : KernelState) (id : ℕ) (why : WaitReason) → is_sleep (Some why) ≡ false → MaySleep k id why
 no-sleep k id why other = λ task there asleep. absurd (false≢true (sym other ∙ asleep))
@@ -203,7 +269,7 @@ set-by k id bits None is there was = let wrong : ⊥ = cc in absurd wrong
 set-by k id bits (Some f) is there was =
     all-released (record k { flags = object_changed with_all_released (object_changed (joined bits) k.flags id) id }) (all_released f) f.pattern
     (others-kept (record k { flags = object_changed (λ g. with_all_released (joined bits g)) k.flags id }) _ refl
-    (changed-twice (joined bits) with_all_released k.flags id) refl refl was.sleepers
+    (changed-twice (joined bits) with_all_released k.flags id) refl refl refl refl was.sleepers
     (flag-changed (λ g. with_all_released (joined bits g)) k id (λ g at. set-kept bits g) was))
 
 pub set-stays : (k : KernelState) (id bits : ℕ) (f : Flag) → object_at k.flags id ≡ Some f → EachIsKept k →
@@ -252,7 +318,7 @@ pub ticked-kept : (k : KernelState) → EachIsKept k → EachIsKept (ticked_on k
 ticked-kept k was =
     let time : Time = advanced k.time in
     prioritized-kept (all_timed_out (record k { time = time }) (due_from time 0))
-    (all-timed (record k { time = time }) (due_from time 0) (others-kept k (record k { time = time }) refl refl refl refl was.sleepers was))
+    (all-timed (record k { time = time }) (due_from time 0) (others-kept k (record k { time = time }) refl refl refl refl refl refl was.sleepers was))
 
 -- Exceptions.
 

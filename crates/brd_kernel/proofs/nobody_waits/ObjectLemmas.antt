@@ -18,7 +18,11 @@ use Rattle.brd_objects.specs.Waiters.{satisfies}
 use Rattle.brd_objects.specs.Flags.{joined, masked, pattern_left, pattern_for, taken_for, flag_awaited, flag_left, flag_reordered, with_all_released}
 use Rattle.brd_objects.specs.DataQueues.{DataQueueState, has_room, sent_to, sent, outcome_to, outcome, with_room_for, with_room, forced, received_by, received, receipt_by, receipt, awaited_by_sender, awaited_by_receiver, data_queue_left, data_queue_reordered}
 use Rattle.brd_objects.proofs.BitLemmas.{HasBits}
-use Rattle.brd_kernel.specs.Waiting.{SemaphoreIsKept, FlagIsKept, QueueIsKept, MutexIsKept}
+use Rattle.brd_kernel.specs.Waiting.{SemaphoreIsKept, FlagIsKept, QueueIsKept, MutexIsKept, PoolIsKept, MailboxIsKept}
+use Rattle.brd_objects.specs.Pools.{PoolState, is_out, block_for, without_block, handed_out, back_to, given_back, pool_awaited, pool_left, pool_reordered}
+use Rattle.brd_objects.specs.declared.message.Message.{Message}
+use Rattle.brd_objects.specs.Mailboxes.{MailboxState, received_from, message_received, message_sent, first_message, next_message, mailbox_awaited, mailbox_left, mailbox_reordered}
+use Rattle.brd_objects.specs.Mailboxes as mailboxes
 use Rattle.brd_kernel.proofs.who_waits.ListLemmas.{either}
 use Rattle.brd_kernel.proofs.nobody_waits.OrderLemmas.{in-placed, in-without, in-reordered, in-others, in-kept}
 use Rattle.brd_kernel.proofs.nobody_waits.WantLemmas.{IsUnsatisfied, want-kept, want-none, fewer, unreleased}
@@ -104,6 +108,78 @@ pub mutex-reordered : (id priority : ℕ) (m : Mutex) → MutexIsKept m → Mute
 mutex-reordered id priority m was = record {
   ordered = in-reordered (protocol_order m.protocol) id priority m.waiters was.ordered;
   lacking = λ none. nobody-reordered (protocol_order m.protocol) id priority m.waiters (was.lacking none);
+}
+
+-- Fixed memory pools.
+
+handed-by : (p : PoolState) (found : Option ℕ) → block_for p ≡ found → PoolIsKept p → PoolIsKept (without_block p found)
+handed-by p None is was = was
+handed-by p (Some block) is was = record { ordered = was.ordered; lacking = λ there. was.lacking (ap is_some is) }
+
+pub pool-handed : (p : PoolState) → PoolIsKept p → PoolIsKept (handed_out p)
+pool-handed p was = handed-by p (block_for p) refl was
+
+back-by : (block : ℕ) (p : PoolState) (ws : List Plain) → p.waiters ≡ ws → PoolIsKept p → PoolIsKept (back_to block p ws)
+back-by block p [] is was = record { ordered = was.ordered; lacking = λ there. is }
+back-by block p (first ∷ others) is was = record {
+  ordered = in-others p.order first others (subst (λ ws. PoolIsKept (record p { waiters = ws })) is was).ordered;
+  lacking = λ there. absurd (not-both first others p.waiters is (was.lacking there));
+}
+
+pub pool-given : (block : ℕ) (p : PoolState) → PoolIsKept p → PoolIsKept (given_back block p)
+pool-given block p was = either (λ x. PoolIsKept x) (is_out block p) _ p (back-by block p p.waiters refl was) was
+
+pub pool-awaited : (id priority : ℕ) (p : PoolState) → block_for p ≡ None → PoolIsKept p → PoolIsKept (pool_awaited id priority p)
+pool-awaited id priority p none was = record {
+  ordered = in-placed p.order (record { id = id; priority = priority; wanted = tt }) p.waiters was.ordered;
+  lacking = λ there. absurd (true≢false (sym there ∙ ap is_some none));
+}
+
+pub pool-left : (id : ℕ) (p : PoolState) → PoolIsKept p → PoolIsKept (pool_left id p)
+pool-left id p was =
+    record { ordered = in-without p.order id p.waiters was.ordered; lacking = λ there. ap (without id) (was.lacking there) }
+
+pub pool-reordered : (id priority : ℕ) (p : PoolState) → PoolIsKept p → PoolIsKept (pool_reordered id priority p)
+pool-reordered id priority p was = record {
+  ordered = in-reordered p.order id priority p.waiters was.ordered;
+  lacking = λ there. nobody-reordered p.order id priority p.waiters (was.lacking there);
+}
+
+-- Mailboxes.
+
+message-by : (message : Message) (m : MailboxState) (ws : List Plain) → m.waiters ≡ ws → MailboxIsKept m → MailboxIsKept (mailboxes.sent_to message m ws)
+message-by message m [] is was =
+    either (λ x. MailboxIsKept x) (mailboxes.has_room m) _ m (record { ordered = was.ordered; lacking = λ there. is }) was
+message-by message m (first ∷ others) is was = record {
+  ordered = in-others m.order first others (subst (λ ws. MailboxIsKept (record m { waiters = ws })) is was).ordered;
+  lacking = λ there. absurd (not-both first others m.waiters is (was.lacking there));
+}
+
+pub mailbox-sent : (message : Message) (m : MailboxState) → MailboxIsKept m → MailboxIsKept (message_sent message m)
+mailbox-sent message m was = message-by message m m.waiters refl was
+
+taken-from : (m : MailboxState) (messages : List Message) → m.messages ≡ messages → MailboxIsKept m → MailboxIsKept (received_from messages m)
+taken-from m [] is was = was
+taken-from m (first ∷ others) is was =
+    record { ordered = was.ordered; lacking = λ there. was.lacking (ap (λ l. is_some (first_message l)) is) }
+
+pub mailbox-received : (m : MailboxState) → MailboxIsKept m → MailboxIsKept (message_received m)
+mailbox-received m was = taken-from m m.messages refl was
+
+pub mailbox-awaited : (id priority : ℕ) (m : MailboxState) → next_message m ≡ None → MailboxIsKept m → MailboxIsKept (mailbox_awaited id priority m)
+mailbox-awaited id priority m none was = record {
+  ordered = in-placed m.order (record { id = id; priority = priority; wanted = tt }) m.waiters was.ordered;
+  lacking = λ there. absurd (true≢false (sym there ∙ ap is_some none));
+}
+
+pub mailbox-left : (id : ℕ) (m : MailboxState) → MailboxIsKept m → MailboxIsKept (mailbox_left id m)
+mailbox-left id m was =
+    record { ordered = in-without m.order id m.waiters was.ordered; lacking = λ there. ap (without id) (was.lacking there) }
+
+pub mailbox-reordered : (id priority : ℕ) (m : MailboxState) → MailboxIsKept m → MailboxIsKept (mailbox_reordered id priority m)
+mailbox-reordered id priority m was = record {
+  ordered = in-reordered m.order id priority m.waiters was.ordered;
+  lacking = λ there. nobody-reordered m.order id priority m.waiters (was.lacking there);
 }
 
 -- Event flags.

@@ -28,7 +28,7 @@ use Rattle.brd_kernel.specs.Kernel.{KernelState, with_tasks, with_processor, pro
 use Rattle.brd_kernel.specs.Row.{is_absent}
 use Rattle.brd_kernel.specs.Waits.{can_wait, with_wait, released_in, reason_of, unlisted, broken_off, ended_in, reordered_in, answer_by, timed_out, all_timed_out, ticked_on, faulted_task, faulted_in, ended_by_fault, with_released, given_in, all_given_in, quits_in, prioritized}
 use Rattle.brd_kernel.specs.Dispatch.{is_same_task}
-use Rattle.brd_kernel.specs.Services.{runs_held, is_held_elsewhere, is_no_processor, with_all_released_in, with_satisfied_of, with_satisfied_released, handed_over, unmarked_on, handler_ended, serve_of, caller_on}
+use Rattle.brd_kernel.specs.Services.{runs_held, is_held_elsewhere, is_no_processor, with_all_released_in, with_satisfied_of, with_satisfied_released, handed_over, released_with_second, message_of, unmarked_on, handler_ended, serve_of, caller_on}
 use Rattle.brd_kernel.specs.Running.{is_ready_on, IsRunning, IsOrderly}
 use Rattle.brd_kernel.proofs.who_waits.ListLemmas.{same-number}
 use Rattle.brd_kernel.proofs.WaitLemmas.{unlisted-only, reordered-only}
@@ -37,6 +37,8 @@ use Rattle.brd_kernel.proofs.SameLemmas.{same-entered, same-all_given}
 use Rattle.brd_kernel.proofs.who_runs.ReadyLemmas.{KeepsReady, activated-keeps, ended-others, wakeup-keeps, cleared-keeps, blocked-active, suspended-active, through-others, resumed-keeps, released-keeps, priority-keeps, migrated-others, turned-keeps}
 use Rattle.brd_kernel.proofs.who_runs.RunningLemmas.{ready-hold, held_in, HoldsReady, IsntHeld, runs-hold, tasks-run, parts-run, marked-runs, others-hold, free-isnt_held, exit-holds, number-there}
 use Rattle.brd_objects.specs.Mutexes.{owned, given, next_owner_in}
+use Rattle.brd_objects.specs.Pools.{PoolState, handed_out, given_back, next_holder}
+use Rattle.brd_objects.specs.Mailboxes.{MailboxState, message_sent, message_outcome, message_received}
 use Rattle.brd_kernel.proofs.PricedLemmas.{priced, priced_in}
 use Rattle.brd_kernel.proofs.SettledLemmas.{Settles, all-given, all-prioritized}
 
@@ -88,6 +90,10 @@ handed-runs : (k : KernelState) (datum : ℕ) (what : Sent) → IsRunning k → 
 handed-runs k datum (Handed id) was = released-runs k id e_ok (Some datum) was
 handed-runs k datum Stored was = was
 handed-runs k datum Full was = was
+
+second-runs : (k : KernelState) (second : ℕ) (id : Option ℕ) → IsRunning k → IsRunning (released_with_second k second id)
+second-runs k second None was = was
+second-runs k second (Some id) was = released-runs k id e_ok (Some second) was
 
 -- Mutexes are given back, and priorities given: whoever runs goes on.
 
@@ -368,6 +374,13 @@ holds-law k cpu p found was =
           runs-hold (with_released new it.sender) (released-if-runs new it.sender (parts-run k new refl refl was));
       locks = λ id m there. parts-hold k (record k { mutexes = object_changed (owned caller) k.mutexes id }) refl refl was;
       gives = λ id m there. runs-hold (given_in k id) (given-runs k id was);
+      hands-out = λ id p block there is. parts-hold k (record k { pools = object_changed handed_out k.pools id }) refl refl was;
+      gives-back = λ id block (p : PoolState) there. let new : KernelState = record k { pools = object_changed (given_back block) k.pools id } in
+          runs-hold (released_with_second new block (next_holder block p)) (second-runs new block (next_holder block p) (parts-run k new refl refl was));
+      posts = λ id address priority (m : MailboxState) there.
+          let new : KernelState = record k { mailboxes = object_changed (message_sent (message_of address priority)) k.mailboxes id } in
+          runs-hold (handed_over new address (message_outcome m)) (handed-runs new address (message_outcome m) (parts-run k new refl refl was));
+      fetches = λ id m address there is. parts-hold k (record k { mailboxes = object_changed message_received k.mailboxes id }) refl refl was;
       awaits = λ id due lacks may. wait-holds k cpu caller (reason.On (lacked lacks) id) due (awaiting k caller id lacks) p
           (same-entered k caller id lacks).processors found may was;
       writes = λ word. parts-hold k (record k { console = k.console ++ word % 2 ^ 8 ∷ [] }) refl refl was;

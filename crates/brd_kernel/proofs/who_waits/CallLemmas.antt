@@ -22,15 +22,20 @@ use Rattle.brd_objects.specs.DataQueues.{DataQueueState, has_room, sent_to, sent
 use Rattle.brd_kernel.specs.Answer.{e_ok}
 use Rattle.brd_kernel.specs.Kernel.{KernelState}
 use Rattle.brd_kernel.specs.Waits.{released_in, with_released, given_in}
-use Rattle.brd_kernel.specs.Services.{with_all_released_in, with_satisfied_of, handed_over}
-use Rattle.brd_kernel.specs.Waiting.{plain, semaphore_waiters, flag_waiters, senders, receivers, standing_for, mutex_waiters}
+use Rattle.brd_kernel.specs.Services.{with_all_released_in, with_satisfied_of, handed_over, released_with_second, message_of}
+use Rattle.brd_kernel.specs.Waiting.{plain, semaphore_waiters, flag_waiters, senders, receivers, standing_for, mutex_waiters, pool_waiters, mailbox_waiters}
 use Rattle.brd_kernel.proofs.who_waits.ListLemmas.{either, among, apart-plain, apart-wanting, apart-kept, has-plain, priority_in-plain, priority_in-kept, released-there}
 use Rattle.brd_kernel.proofs.who_waits.StandingLemmas.{stands_in, StandsIn}
 use Rattle.brd_kernel.proofs.who_waits.KeepingLemmas.{by-leaving-one}
-use Rattle.brd_kernel.proofs.who_waits.WaitersLemmas.{semaphore-rewrites, flag-rewrites, sender-rewrites, receiver-rewrites, mutex-rewrites}
+use Rattle.brd_kernel.proofs.who_waits.WaitersLemmas.{semaphore-rewrites, flag-rewrites, sender-rewrites, receiver-rewrites, mutex-rewrites, pool-rewrites, mailbox-rewrites}
 use Rattle.brd_kernel.proofs.who_waits.WaitingLemmas.{released-keep, first-out, unchanged-keeps}
 use Rattle.brd_objects.specs.declared.mutex.Mutex.{Mutex}
 use Rattle.brd_objects.specs.Mutexes.{given_to, given, next_owner_in}
+use Rattle.brd_objects.specs.Waiters.{first_in}
+use Rattle.brd_objects.specs.Pools.{PoolState, is_out, block_for, without_block, handed_out, back_to, given_back, next_holder}
+use Rattle.brd_objects.specs.declared.message.Message.{Message}
+use Rattle.brd_objects.specs.Mailboxes.{MailboxState, message_sent, message_outcome, received_from, message_received}
+use Rattle.brd_objects.specs.Mailboxes as mailboxes
 
 -- A wait for time has no list.
 
@@ -95,6 +100,77 @@ pub given-keeps : (k : KernelState) (id : ℕ) (m : Mutex) → object_at k.mutex
 given-keeps k id m there was =
     subst (λ found. StandsIn [] (with_released (record k { mutexes = object_changed given k.mutexes id }) (next_owner_in found))) (sym there)
     (handed-on k id m m.waiters there refl was)
+
+-- Fixed memory pools.
+
+pool-stays : (f : PoolState → PoolState) (k : KernelState) (id : ℕ) (p : PoolState) → object_at k.pools id ≡ Some p → (f p).waiters ≡ p.waiters → StandsIn [] k →
+    StandsIn [] (record k { pools = object_changed f k.pools id })
+pool-stays f k id p there same was =
+    unchanged-keeps k (standing_for (record k { pools = object_changed f k.pools id })) (reason.On kind.Block id) (f p).waiters
+    (pool-rewrites f k id p there) (same ∙ ap pool_waiters (sym there)) was
+
+same-waiters : (p : PoolState) (found : Option ℕ) → (without_block p found).waiters ≡ p.waiters
+same-waiters p None = refl
+same-waiters p (Some block) = refl
+
+pub handed-out-keeps : (k : KernelState) (id : ℕ) (p : PoolState) → object_at k.pools id ≡ Some p → StandsIn [] k → StandsIn [] (record k { pools = object_changed handed_out k.pools id })
+handed-out-keeps k id p there was = pool-stays handed_out k id p there (same-waiters p (block_for p)) was
+
+-- what is left of the waiters where a block comes back
+back-waiters : (p : PoolState) (block : ℕ) (ws : List Plain) → is_out block p ≡ true → p.waiters ≡ ws → (given_back block p).waiters ≡ (back_to block p ws).waiters
+back-waiters p block ws out is =
+    ap (λ test. (if test then back_to block p p.waiters else p).waiters) out ∙ ap (λ l. (back_to block p l).waiters) is
+
+back-keep : (k : KernelState) (id block : ℕ) (p : PoolState) (test : Bool) (ws : List Plain) → object_at k.pools id ≡ Some p → is_out block p ≡ test → p.waiters ≡ ws → StandsIn [] k →
+    StandsIn [] (released_with_second (record k { pools = object_changed (given_back block) k.pools id }) block (if test then first_in ws else None))
+back-keep k id block p false ws there out is was =
+    pool-stays (given_back block) k id p there (ap (λ test. (if test then back_to block p p.waiters else p).waiters) out) was
+back-keep k id block p true [] there out is was = pool-stays (given_back block) k id p there (back-waiters p block [] out is) was
+back-keep k id block p true (first ∷ others) there out is was =
+    let new : KernelState = record k { pools = object_changed (given_back block) k.pools id } in
+    released-keep new first.id e_ok (Some block) []
+    (first-out k (standing_for new) (reason.On kind.Block id) first others
+    (λ other. pool-rewrites (given_back block) k id p there other
+    ∙ ap (λ l. if stands_in (reason.On kind.Block id) other then l else standing_for k other) (back-waiters p block (first ∷ others) out is))
+    (ap pool_waiters there ∙ is) was)
+
+pub back-keeps : (k : KernelState) (id block : ℕ) (p : PoolState) → object_at k.pools id ≡ Some p → StandsIn [] k →
+    StandsIn [] (released_with_second (record k { pools = object_changed (given_back block) k.pools id }) block (next_holder block p))
+back-keeps k id block p there was = back-keep k id block p (is_out block p) p.waiters there refl refl was
+
+-- Mailboxes.
+
+mailbox-stays : (f : MailboxState → MailboxState) (k : KernelState) (id : ℕ) (m : MailboxState) → object_at k.mailboxes id ≡ Some m → (f m).waiters ≡ m.waiters → StandsIn [] k →
+    StandsIn [] (record k { mailboxes = object_changed f k.mailboxes id })
+mailbox-stays f k id m there same was =
+    unchanged-keeps k (standing_for (record k { mailboxes = object_changed f k.mailboxes id })) (reason.On kind.Message id) (f m).waiters
+    (mailbox-rewrites f k id m there) (same ∙ ap mailbox_waiters (sym there)) was
+
+posted-keep : (k : KernelState) (id address : ℕ) (message : Message) (m : MailboxState) (ws : List Plain) → object_at k.mailboxes id ≡ Some m → m.waiters ≡ ws → StandsIn [] k →
+    StandsIn [] (handed_over (record k { mailboxes = object_changed (message_sent message) k.mailboxes id }) address (mailboxes.outcome_to m ws))
+posted-keep k id address message m [] there is was =
+    let new : KernelState = record k { mailboxes = object_changed (message_sent message) k.mailboxes id } in
+    let waiters = either (λ (x : MailboxState). x.waiters ≡ m.waiters) (mailboxes.has_room m) _ m refl refl in
+    let stays : StandsIn [] new = mailbox-stays (message_sent message) k id m there (ap (λ l. (mailboxes.sent_to message m l).waiters) is ∙ waiters) was in
+    either (λ (what : Sent). StandsIn [] (handed_over new address what)) (mailboxes.has_room m) Stored Full stays stays
+posted-keep k id address message m (first ∷ others) there is was =
+    let new : KernelState = record k { mailboxes = object_changed (message_sent message) k.mailboxes id } in
+    released-keep new first.id e_ok (Some address) []
+    (first-out k (standing_for new) (reason.On kind.Message id) first others
+    (λ other. mailbox-rewrites (message_sent message) k id m there other
+    ∙ ap (λ l. if stands_in (reason.On kind.Message id) other then (mailboxes.sent_to message m l).waiters else standing_for k other) is)
+    (ap mailbox_waiters there ∙ is) was)
+
+pub posted-keeps : (k : KernelState) (id address priority : ℕ) (m : MailboxState) → object_at k.mailboxes id ≡ Some m → StandsIn [] k →
+    StandsIn [] (handed_over (record k { mailboxes = object_changed (message_sent (message_of address priority)) k.mailboxes id }) address (message_outcome m))
+posted-keeps k id address priority m there was = posted-keep k id address (message_of address priority) m m.waiters there refl was
+
+received-waiters : (m : MailboxState) (messages : List Message) → (received_from messages m).waiters ≡ m.waiters
+received-waiters m [] = refl
+received-waiters m (first ∷ others) = refl
+
+pub fetched-keeps : (k : KernelState) (id : ℕ) (m : MailboxState) → object_at k.mailboxes id ≡ Some m → StandsIn [] k → StandsIn [] (record k { mailboxes = object_changed message_received k.mailboxes id })
+fetched-keeps k id m there was = mailbox-stays message_received k id m there (received-waiters m m.messages) was
 
 -- Event flags.
 

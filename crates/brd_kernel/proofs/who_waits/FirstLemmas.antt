@@ -21,6 +21,8 @@ use Rattle.brd_config.specs.declared.objects.FlagConfig.{FlagConfig}
 use Rattle.brd_config.specs.declared.objects.QueueConfig.{QueueConfig}
 use Rattle.brd_config.specs.declared.objects.SpinLockConfig.{SpinLockConfig}
 use Rattle.brd_config.specs.declared.objects.MutexConfig.{MutexConfig}
+use Rattle.brd_config.specs.declared.objects.MailboxConfig.{MailboxConfig}
+use Rattle.brd_objects.specs.declared.block.PoolSetup.{PoolSetup}
 use Rattle.brd_objects.specs.declared.want.Want.{Want}
 use Rattle.brd_objects.specs.QueueOrder.{order_of}
 use Rattle.brd_objects.specs.Table.{object_at, made_at, made_below}
@@ -37,6 +39,9 @@ use Rattle.brd_kernel.proofs.nobody_waits.EachLemmas.{tasks-kept}
 use Rattle.brd_kernel.proofs.who_waits.RowLemmas.{activated-before}
 use Rattle.brd_kernel.proofs.who_waits.WaitingLemmas.{tasks-keep}
 use Rattle.brd_objects.specs.Mutexes.{mutex_of, protocol_order}
+use Rattle.brd_objects.specs.Pools.{pool_of}
+use Rattle.brd_objects.specs.Mailboxes.{mailbox_of}
+use Rattle.brd_kernel.specs.Waiting.{pool_waiters, mailbox_waiters, PoolIsKept, MailboxIsKept}
 
 -- what stands at a place of a table that is made: what its ID makes, or nothing
 made-by : {C X : Type 0} → (small : Bool) (id_of : C → ℕ) (object_of : C → X) (configs : List C) (n at : ℕ) (P : Option X → Type 0) →
@@ -65,21 +70,25 @@ nobody-made id_of object_of configs at list none some =
     made-by (nat_lt at 256) id_of object_of configs 256 at (λ found. list found ≡ []) refl none
     (nobody-at object_of list (find (λ c. id_of c == at) configs) none some)
 
-nobody-waits : (standard : Bool) (processors : ℕ) (setups : List TaskSetup) (lines : List LineSetup) (semaphores : List SemaphoreConfig) (flags : List FlagConfig) (queues : List QueueConfig) (spin_locks : List SpinLockConfig) (mutexes : List MutexConfig)
+nobody-waits : (standard : Bool) (processors : ℕ) (setups : List TaskSetup) (lines : List LineSetup) (semaphores : List SemaphoreConfig) (flags : List FlagConfig) (queues : List QueueConfig) (spin_locks : List SpinLockConfig) (mutexes : List MutexConfig) (pools : List PoolSetup) (mailboxes : List MailboxConfig)
     (why : WaitReason) →
-    standing_for (made_kernel standard processors setups lines semaphores flags queues spin_locks mutexes) why ≡ []
-nobody-waits standard processors setups lines semaphores flags queues spin_locks mutexes reason.Sleep = refl
-nobody-waits standard processors setups lines semaphores flags queues spin_locks mutexes reason.Delay = refl
-nobody-waits standard processors setups lines semaphores flags queues spin_locks mutexes (reason.On kind.Semaphore object) =
+    standing_for (made_kernel standard processors setups lines semaphores flags queues spin_locks mutexes pools mailboxes) why ≡ []
+nobody-waits standard processors setups lines semaphores flags queues spin_locks mutexes pools mailboxes reason.Sleep = refl
+nobody-waits standard processors setups lines semaphores flags queues spin_locks mutexes pools mailboxes reason.Delay = refl
+nobody-waits standard processors setups lines semaphores flags queues spin_locks mutexes pools mailboxes (reason.On kind.Semaphore object) =
     nobody-made (λ config. config.id) semaphore_of semaphores object semaphore_waiters refl (λ c. refl)
-nobody-waits standard processors setups lines semaphores flags queues spin_locks mutexes (reason.On kind.Flag object) =
+nobody-waits standard processors setups lines semaphores flags queues spin_locks mutexes pools mailboxes (reason.On kind.Flag object) =
     nobody-made (λ config. config.id) flag_of flags object flag_waiters refl (λ c. refl)
-nobody-waits standard processors setups lines semaphores flags queues spin_locks mutexes (reason.On kind.Room object) =
+nobody-waits standard processors setups lines semaphores flags queues spin_locks mutexes pools mailboxes (reason.On kind.Room object) =
     nobody-made (λ config. config.id) data_queue_of queues object senders refl (λ c. refl)
-nobody-waits standard processors setups lines semaphores flags queues spin_locks mutexes (reason.On kind.Datum object) =
+nobody-waits standard processors setups lines semaphores flags queues spin_locks mutexes pools mailboxes (reason.On kind.Datum object) =
     nobody-made (λ config. config.id) data_queue_of queues object receivers refl (λ c. refl)
-nobody-waits standard processors setups lines semaphores flags queues spin_locks mutexes (reason.On kind.Mutex object) =
+nobody-waits standard processors setups lines semaphores flags queues spin_locks mutexes pools mailboxes (reason.On kind.Mutex object) =
     nobody-made (λ config. config.id) mutex_of mutexes object mutex_waiters refl (λ c. refl)
+nobody-waits standard processors setups lines semaphores flags queues spin_locks mutexes pools mailboxes (reason.On kind.Block object) =
+    nobody-made (λ setup. setup.id) pool_of pools object pool_waiters refl (λ c. refl)
+nobody-waits standard processors setups lines semaphores flags queues spin_locks mutexes pools mailboxes (reason.On kind.Message object) =
+    nobody-made (λ config. config.id) mailbox_of mailboxes object mailbox_waiters refl (λ c. refl)
 
 -- a task that hasn't started waits for nothing
 first-waits : (found : Option TaskSetup) → waits (option_map unstarted found) ≡ None
@@ -98,13 +107,13 @@ dues-long : length beginning.dues ≡ 256
 unfolding beginning
 dues-long = refl
 
-made-stands : (standard : Bool) (processors : ℕ) (setups : List TaskSetup) (lines : List LineSetup) (semaphores : List SemaphoreConfig) (flags : List FlagConfig) (queues : List QueueConfig) (spin_locks : List SpinLockConfig) (mutexes : List MutexConfig) →
-    StandsIn [] (made_kernel standard processors setups lines semaphores flags queues spin_locks mutexes)
-made-stands standard processors setups lines semaphores flags queues spin_locks mutexes = record {
+made-stands : (standard : Bool) (processors : ℕ) (setups : List TaskSetup) (lines : List LineSetup) (semaphores : List SemaphoreConfig) (flags : List FlagConfig) (queues : List QueueConfig) (spin_locks : List SpinLockConfig) (mutexes : List MutexConfig) (pools : List PoolSetup) (mailboxes : List MailboxConfig) →
+    StandsIn [] (made_kernel standard processors setups lines semaphores flags queues spin_locks mutexes pools mailboxes)
+made-stands standard processors setups lines semaphores flags queues spin_locks mutexes pools mailboxes = record {
   rows = rows-length setups 256;
   dues = dues-long;
-  apart = λ why. subst AreApart (sym (nobody-waits standard processors setups lines semaphores flags queues spin_locks mutexes why)) tt;
-  listed = λ id why. ap (priority_in id) (nobody-waits standard processors setups lines semaphores flags queues spin_locks mutexes why)
+  apart = λ why. subst AreApart (sym (nobody-waits standard processors setups lines semaphores flags queues spin_locks mutexes pools mailboxes why)) tt;
+  listed = λ id why. ap (priority_in id) (nobody-waits standard processors setups lines semaphores flags queues spin_locks mutexes pools mailboxes why)
       ∙ sym (ap (λ w. wanted w why) (nothing-waited setups id));
   timed = λ id in_it. subst (λ w. IsTimed w (due_of beginning id)) (sym (nothing-waited setups id)) (undue id);
 }
@@ -132,9 +141,9 @@ unstarted-kept : (found : Option TaskSetup) → IfSome (option_map unstarted fou
 unstarted-kept None = tt
 unstarted-kept (Some setup) = λ asleep. refl
 
-made-each : (standard : Bool) (processors : ℕ) (setups : List TaskSetup) (lines : List LineSetup) (semaphores : List SemaphoreConfig) (flags : List FlagConfig) (queues : List QueueConfig) (spin_locks : List SpinLockConfig) (mutexes : List MutexConfig) →
-    EachIsKept (made_kernel standard processors setups lines semaphores flags queues spin_locks mutexes)
-made-each standard processors setups lines semaphores flags queues spin_locks mutexes = record {
+made-each : (standard : Bool) (processors : ℕ) (setups : List TaskSetup) (lines : List LineSetup) (semaphores : List SemaphoreConfig) (flags : List FlagConfig) (queues : List QueueConfig) (spin_locks : List SpinLockConfig) (mutexes : List MutexConfig) (pools : List PoolSetup) (mailboxes : List MailboxConfig) →
+    EachIsKept (made_kernel standard processors setups lines semaphores flags queues spin_locks mutexes pools mailboxes)
+made-each standard processors setups lines semaphores flags queues spin_locks mutexes pools mailboxes = record {
   sleepers = λ at. row-at (nat_lt at 256) setups 256 at refl (λ row. IfSome row (λ task. SleeperIsKept task)) tt
       (unstarted-kept (find (λ setup. setup.id == at) setups));
   semaphores = λ at. each-first (λ s. SemaphoreIsKept s) (λ config. config.id) semaphore_of semaphores at
@@ -145,14 +154,18 @@ made-each standard processors setups lines semaphores flags queues spin_locks mu
       (λ c. record { ordered = empty-in-order ℕ (order_of c.attributes.0); room = λ has. refl; datum = λ some. (refl, refl) });
   mutexes = λ at. each-first (λ m. MutexIsKept m) (λ config. config.id) mutex_of mutexes at
       (λ c. record { ordered = empty-in-order (Unit {0}) (protocol_order c.protocol); lacking = λ none. refl });
+  pools = λ at. each-first (λ p. PoolIsKept p) (λ setup. setup.id) pool_of pools at
+      (λ c. record { ordered = empty-in-order (Unit {0}) (order_of c.attributes.0); lacking = λ there. refl });
+  mailboxes = λ at. each-first (λ m. MailboxIsKept m) (λ config. config.id) mailbox_of mailboxes at
+      (λ c. record { ordered = empty-in-order (Unit {0}) (order_of c.attributes.0); lacking = λ there. refl });
 }
 
 pub made-keeps : (standard : Bool) (processors : ℕ) (setups : List TaskSetup) (lines : List LineSetup) (semaphores : List SemaphoreConfig) (flags : List FlagConfig)
-    (queues : List QueueConfig) (spin_locks : List SpinLockConfig) (mutexes : List MutexConfig) →
-    WaitsAreKept (made_kernel standard processors setups lines semaphores flags queues spin_locks mutexes)
-made-keeps standard processors setups lines semaphores flags queues spin_locks mutexes =
-    kept (made_kernel standard processors setups lines semaphores flags queues spin_locks mutexes) (made-stands standard processors setups lines semaphores flags queues spin_locks mutexes)
-    (made-each standard processors setups lines semaphores flags queues spin_locks mutexes)
+    (queues : List QueueConfig) (spin_locks : List SpinLockConfig) (mutexes : List MutexConfig) (pools : List PoolSetup) (mailboxes : List MailboxConfig) →
+    WaitsAreKept (made_kernel standard processors setups lines semaphores flags queues spin_locks mutexes pools mailboxes)
+made-keeps standard processors setups lines semaphores flags queues spin_locks mutexes pools mailboxes =
+    kept (made_kernel standard processors setups lines semaphores flags queues spin_locks mutexes pools mailboxes) (made-stands standard processors setups lines semaphores flags queues spin_locks mutexes pools mailboxes)
+    (made-each standard processors setups lines semaphores flags queues spin_locks mutexes pools mailboxes)
 
 pub activated-keeps : (k : KernelState) (id : ℕ) (request : Request) → WaitsAreKept k → WaitsAreKept (with_tasks k (activated k.tasks id request))
 activated-keeps k id request was =

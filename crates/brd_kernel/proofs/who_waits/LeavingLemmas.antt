@@ -20,6 +20,8 @@ use Rattle.brd_kernel.proofs.who_waits.StandingLemmas.{waits_by, waits, wanted, 
 use Rattle.brd_kernel.proofs.who_waits.WaitersLemmas.{OfEach, changed-all, elsewhere-none}
 use Rattle.brd_kernel.proofs.who_waits.KeepingLemmas.{by-leaving}
 use Rattle.brd_objects.specs.declared.mutex.Mutex.{Mutex}
+use Rattle.brd_objects.specs.Pools.{PoolState}
+use Rattle.brd_objects.specs.Mailboxes.{MailboxState}
 
 -- what a task waits for, as its row says it
 wait-row : (row : Option Task) → waits row ≡ waits_by (reason_in row) (priority_of row)
@@ -60,6 +62,8 @@ leaves id = record {
   room = λ (q : DataQueueState). left-list id q.senders;
   datum = λ (q : DataQueueState). left-list id q.receivers;
   mutex = λ (m : Mutex). left-list id m.waiters;
+  pool = λ (p : PoolState). left-list id p.waiters;
+  mailbox = λ (m : MailboxState). left-list id m.waiters;
 }
 
 pub or-false : (test : Bool) → (test || false) ≡ test

@@ -21,6 +21,8 @@ use Rattle.brd_kernel.proofs.who_waits.StandingLemmas.{waits, wanted, Stands}
 use Rattle.brd_kernel.proofs.who_waits.WaitersLemmas.{OfEach, changed-all, elsewhere-none}
 use Rattle.brd_kernel.proofs.who_waits.LeavingLemmas.{sleeps-nowhere, delayed-nowhere}
 use Rattle.brd_objects.specs.declared.mutex.Mutex.{Mutex}
+use Rattle.brd_objects.specs.Pools.{PoolState}
+use Rattle.brd_objects.specs.Mailboxes.{MailboxState}
 use Rattle.brd_objects.specs.Mutexes.{protocol_order}
 
 -- What becomes of a list when a task in it is given a priority.
@@ -61,6 +63,8 @@ moves id p = record {
   room = λ (q : DataQueueState). moved-list q.order id p q.senders;
   datum = λ (q : DataQueueState). moved-list Arrival id p q.receivers;
   mutex = λ (m : Mutex). moved-list (protocol_order m.protocol) id p m.waiters;
+  pool = λ (b : PoolState). moved-list b.order id p b.waiters;
+  mailbox = λ (m : MailboxState). moved-list m.order id p m.waiters;
 }
 
 -- `t` and `time` are those before

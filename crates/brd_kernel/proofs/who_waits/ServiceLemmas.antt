@@ -34,7 +34,7 @@ use Rattle.brd_kernel.proofs.who_waits.StandingLemmas.{waits_by, waits, StandsIn
 use Rattle.brd_kernel.proofs.who_waits.KeepingLemmas.{by-lists, by-count}
 use Rattle.brd_kernel.proofs.who_waits.RowLemmas.{noted-before, activated-before, migrated-before, turned-before, suspended-keeps, resumed-keeps, through-before}
 use Rattle.brd_kernel.proofs.who_waits.WaitingLemmas.{lists-by, parts-keep, processor-keeps, tasks-keep, released-keep, broken-keeps, ended-keeps, asleep-out, wait-keeps, enters-none, enters-object, priority-keeps}
-use Rattle.brd_kernel.proofs.who_waits.CallLemmas.{sleep-none, delay-none, taken-by, semaphore-stays, returned-keeps, flag-stays, taken-keeps, satisfied-keep, sent-keeps, forced-keeps, received-keeps, mutex-stays, given-keeps}
+use Rattle.brd_kernel.proofs.who_waits.CallLemmas.{sleep-none, delay-none, taken-by, semaphore-stays, returned-keeps, flag-stays, taken-keeps, satisfied-keep, sent-keeps, forced-keeps, received-keeps, mutex-stays, given-keeps, handed-out-keeps, back-keeps, posted-keeps, fetched-keeps}
 use Rattle.brd_objects.specs.Mutexes.{owned}
 use Rattle.brd_kernel.proofs.SettledLemmas.{Settles, all-given, all-prioritized}
 
@@ -83,7 +83,7 @@ stands-law k cpu caller was = record {
       (λ small. enters-none caller (callers_priority k caller) reason.Delay (standing_for k) delay-none was.apart) was;
   rotates = λ on priority p there. tasks-keep k (turned k.tasks on priority) (turned-before k.tasks on priority) was;
   marks = λ p q there same how. processor-keeps k cpu q was;
-  returns = λ p there. parts-keep k (handler_ended k cpu p) refl refl refl refl refl refl was;
+  returns = λ p there. parts-keep k (handler_ended k cpu p) refl refl refl refl refl refl refl refl was;
   signals = λ id (s : Semaphore) there. returned-keeps k id s s.waiters there refl was;
   takes = λ id (s : Semaphore) there. semaphore-stays taken k id s there (taken-by (s.count == 0) s _) was;
   sets = λ id bits f there. let set : KernelState = record k { flags = object_changed (joined bits) k.flags id } in
@@ -95,11 +95,15 @@ stands-law k cpu caller was = record {
   receives = λ id (q : DataQueueState) it there is. received-keeps k id q it there is was;
   locks = λ id m there. mutex-stays (owned caller) k id m there refl was;
   gives = λ id m there. given-keeps k id m there was;
+  hands-out = λ id p block there is. handed-out-keeps k id p there was;
+  gives-back = λ id block p there. back-keeps k id block p there was;
+  posts = λ id address priority m there. posted-keeps k id address priority m there was;
+  fetches = λ id m address there is. fetched-keeps k id m there was;
   awaits = λ id due lacks may. wait-keeps k caller (reason.On (lacked lacks) id) due (awaiting k caller id lacks) tt
       (enters-object k caller id lacks was) was;
-  writes = λ word. parts-keep k (record k { console = k.console ++ word % 2 ^ 8 ∷ [] }) refl refl refl refl refl refl was;
-  ends_all = parts-keep k (record k { off = true }) refl refl refl refl refl refl was;
-  sets_clock = λ clock. parts-keep k (record k { clock = clock }) refl refl refl refl refl refl was;
+  writes = λ word. parts-keep k (record k { console = k.console ++ word % 2 ^ 8 ∷ [] }) refl refl refl refl refl refl refl refl was;
+  ends_all = parts-keep k (record k { off = true }) refl refl refl refl refl refl refl refl was;
+  sets_clock = λ clock. parts-keep k (record k { clock = clock }) refl refl refl refl refl refl refl refl was;
 }
 
 pub serve-keeps : (k : KernelState) (cpu : ℕ) (c : Call) → WaitsAreKept k → WaitsAreKept (serve_of k cpu c).kernel
@@ -117,7 +121,7 @@ all-timed-keep k (id ∷ ids) was = all-timed-keep (timed_out k id) ids (broken-
 count-keeps : (k : KernelState) (time : Time) → time.dues ≡ k.time.dues → StandsIn [] k → StandsIn [] (record k { time = time })
 count-keeps k time same was =
     let new : KernelState = record k { time = time } in
-    by-lists [] k.tasks time (standing_for k) (standing_for new) (lists-by k new refl refl refl refl)
+    by-lists [] k.tasks time (standing_for k) (standing_for new) (lists-by k new refl refl refl refl refl refl)
     (by-count [] k.tasks k.time time (standing_for k) same was)
 
 pub ticked-keeps : (k : KernelState) → WaitsAreKept k → WaitsAreKept (ticked_on k (advanced k.time))
@@ -156,27 +160,27 @@ fault-keeps k cpu was =
 
 -- What changes no wait, no list and no due tick.
 pub others-keep : (k new : KernelState) → new.tasks ≡ k.tasks → new.time ≡ k.time → new.semaphores ≡ k.semaphores → new.flags ≡ k.flags →
-    new.queues ≡ k.queues → new.mutexes ≡ k.mutexes → WaitsAreKept k → WaitsAreKept new
-others-keep k new tasks time semaphores flags queues mutexes was =
-    kept new (parts-keep k new tasks time semaphores flags queues mutexes (stands k was))
-    (others-kept k new semaphores flags queues mutexes (subst (λ t. AreKept t) (sym tasks) was.each.sleepers) was.each)
+    new.queues ≡ k.queues → new.mutexes ≡ k.mutexes → new.pools ≡ k.pools → new.mailboxes ≡ k.mailboxes → WaitsAreKept k → WaitsAreKept new
+others-keep k new tasks time semaphores flags queues mutexes pools mailboxes was =
+    kept new (parts-keep k new tasks time semaphores flags queues mutexes pools mailboxes (stands k was))
+    (others-kept k new semaphores flags queues mutexes pools mailboxes (subst (λ t. AreKept t) (sym tasks) was.each.sleepers) was.each)
 
 pub context-keeps : (k : KernelState) (cpu : ℕ) (who : Executor) (s : State) → WaitsAreKept k → WaitsAreKept (with_context_of k cpu who s)
-context-keeps k cpu executor.Handler s was = others-keep k (with_context_of k cpu executor.Handler s) refl refl refl refl refl refl was
+context-keeps k cpu executor.Handler s was = others-keep k (with_context_of k cpu executor.Handler s) refl refl refl refl refl refl refl refl was
 context-keeps k cpu (executor.Task id) s was =
     kept (with_context_of k cpu (executor.Task id) s)
     (tasks-keep k (with_context k.tasks id s) (record { long = refl; same = λ at. refl }) (stands k was))
     (tasks-kept k (with_context k.tasks id s) was.each.sleepers was.each)
 
 pub dispatched-keeps : (k : KernelState) → WaitsAreKept k → WaitsAreKept (dispatched k)
-dispatched-keeps k was = others-keep k (dispatched k) refl refl refl refl refl refl was
+dispatched-keeps k was = others-keep k (dispatched k) refl refl refl refl refl refl refl refl was
 
 pub pending-keeps : (k : KernelState) (line : ℕ) → WaitsAreKept k → WaitsAreKept (with_pending k line)
-pending-keeps k line was = others-keep k (with_pending k line) refl refl refl refl refl refl was
+pending-keeps k line was = others-keep k (with_pending k line) refl refl refl refl refl refl refl refl was
 
 handles-keep : (k : KernelState) (cpu line : ℕ) (found : Option Processor) → WaitsAreKept k → WaitsAreKept (handles k cpu line found)
 handles-keep k cpu line None was = was
-handles-keep k cpu line (Some p) was = others-keep k (handles k cpu line (Some p)) refl refl refl refl refl refl was
+handles-keep k cpu line (Some p) was = others-keep k (handles k cpu line (Some p)) refl refl refl refl refl refl refl refl was
 
 pub accepted-keeps : (k : KernelState) (cpu line : ℕ) → WaitsAreKept k → WaitsAreKept (accepted_line k cpu line)
 accepted-keeps k cpu line was = handles-keep k cpu line (processor_at k cpu) was

@@ -24,6 +24,8 @@ is_same kind.Flag kind.Flag = true
 is_same kind.Room kind.Room = true
 is_same kind.Datum kind.Datum = true
 is_same kind.Mutex kind.Mutex = true
+is_same kind.Block kind.Block = true
+is_same kind.Message kind.Message = true
 is_same what other = false
 
 same-kind : (what other : WaitKind) → is_same what other ≡ true → what ≡ other
@@ -32,6 +34,8 @@ same-kind kind.Flag kind.Flag is = refl
 same-kind kind.Room kind.Room is = refl
 same-kind kind.Datum kind.Datum is = refl
 same-kind kind.Mutex kind.Mutex is = refl
+same-kind kind.Block kind.Block is = refl
+same-kind kind.Message kind.Message is = refl
 same-kind what other is = absurd (false≢true is)
 
 kind-itself : (what : WaitKind) → is_same what what ≡ true

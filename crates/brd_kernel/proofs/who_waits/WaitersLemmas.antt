@@ -11,9 +11,11 @@ use Rattle.brd_objects.specs.declared.semaphore.Semaphore.{Semaphore}
 use Rattle.brd_objects.specs.declared.flag.Flag.{Flag}
 use Rattle.brd_objects.specs.Table.{Table, object_at, object_changed, objects_changed}
 use Rattle.brd_objects.specs.DataQueues.{DataQueueState}
+use Rattle.brd_objects.specs.Pools.{PoolState}
+use Rattle.brd_objects.specs.Mailboxes.{MailboxState}
 use Rattle.brd_kernel.specs.Kernel.{KernelState}
 use Rattle.brd_kernel.specs.Waits.{Change, changed_of}
-use Rattle.brd_kernel.specs.Waiting.{plain, semaphore_waiters, flag_waiters, senders, receivers, standing_for, mutex_waiters}
+use Rattle.brd_kernel.specs.Waiting.{plain, semaphore_waiters, flag_waiters, senders, receivers, standing_for, mutex_waiters, pool_waiters, mailbox_waiters}
 use Rattle.brd_kernel.proofs.who_waits.ListLemmas.{if-lift, same-number, written-at}
 use Rattle.brd_kernel.proofs.who_waits.StandingLemmas.{stands_in, wanted}
 use Rattle.brd_objects.specs.declared.mutex.Mutex.{Mutex}
@@ -47,6 +49,20 @@ pub mutex-rewrites : (f : Mutex → Mutex) (k : KernelState) (id : ℕ) (m : Mut
 mutex-rewrites f k id m there (reason.On kind.Mutex object) =
     ap mutex_waiters (object-changed f k.mutexes id object m there) ∙ if-lift mutex_waiters (id == object) (Some (f m)) (object_at k.mutexes object)
 mutex-rewrites f k id m there _ = refl
+
+pub pool-rewrites : (f : PoolState → PoolState) (k : KernelState) (id : ℕ) (p : PoolState) → object_at k.pools id ≡ Some p → (other : WaitReason) →
+    standing_for (record k { pools = object_changed f k.pools id }) other ≡
+    (if stands_in (reason.On kind.Block id) other then (f p).waiters else standing_for k other)
+pool-rewrites f k id p there (reason.On kind.Block object) =
+    ap pool_waiters (object-changed f k.pools id object p there) ∙ if-lift pool_waiters (id == object) (Some (f p)) (object_at k.pools object)
+pool-rewrites f k id p there _ = refl
+
+pub mailbox-rewrites : (f : MailboxState → MailboxState) (k : KernelState) (id : ℕ) (m : MailboxState) → object_at k.mailboxes id ≡ Some m → (other : WaitReason) →
+    standing_for (record k { mailboxes = object_changed f k.mailboxes id }) other ≡
+    (if stands_in (reason.On kind.Message id) other then (f m).waiters else standing_for k other)
+mailbox-rewrites f k id m there (reason.On kind.Message object) =
+    ap mailbox_waiters (object-changed f k.mailboxes id object m there) ∙ if-lift mailbox_waiters (id == object) (Some (f m)) (object_at k.mailboxes object)
+mailbox-rewrites f k id m there _ = refl
 
 -- of a queue one list stays
 
@@ -91,6 +107,8 @@ pub record OfEach (R : List Plain → List Plain → Type 0) (change : Change) :
   pub room : (q : DataQueueState) → R (plain (change.queue q).senders) (plain q.senders)
   pub datum : (q : DataQueueState) → R (plain (change.queue q).receivers) (plain q.receivers)
   pub mutex : (m : Mutex) → R (plain (change.mutex m).waiters) (plain m.waiters)
+  pub pool : (p : PoolState) → R (plain (change.pool p).waiters) (plain p.waiters)
+  pub mailbox : (m : MailboxState) → R (plain (change.mailbox m).waiters) (plain m.waiters)
 
 pub plain-same : (xs : List Plain) → plain xs ≡ xs
 plain-same [] = refl
@@ -120,6 +138,10 @@ changed-all R change k kind.Semaphore each rest (reason.On kind.Semaphore at) =
 changed-all R change k kind.Flag each rest (reason.On kind.Flag at) = at-by R flag_waiters change.flag k.flags at each.nobody each.flag
 changed-all R change k kind.Mutex each rest (reason.On kind.Mutex at) =
     at-by R mutex_waiters change.mutex k.mutexes at each.nobody (λ (m : Mutex). as-plain R (change.mutex m).waiters m.waiters (each.mutex m))
+changed-all R change k kind.Block each rest (reason.On kind.Block at) =
+    at-by R pool_waiters change.pool k.pools at each.nobody (λ (p : PoolState). as-plain R (change.pool p).waiters p.waiters (each.pool p))
+changed-all R change k kind.Message each rest (reason.On kind.Message at) =
+    at-by R mailbox_waiters change.mailbox k.mailboxes at each.nobody (λ (m : MailboxState). as-plain R (change.mailbox m).waiters m.waiters (each.mailbox m))
 changed-all R change k kind.Room each rest (reason.On kind.Room at) = at-by R senders change.queue k.queues at each.nobody each.room
 changed-all R change k kind.Room each rest (reason.On kind.Datum at) = at-by R receivers change.queue k.queues at each.nobody
     (λ (q : DataQueueState). as-plain R (change.queue q).receivers q.receivers (each.datum q))

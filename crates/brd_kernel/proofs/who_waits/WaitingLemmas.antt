@@ -24,46 +24,50 @@ use Rattle.brd_kernel.specs.declared.processor.Processor.{Processor}
 use Rattle.brd_kernel.specs.Kernel.{KernelState, with_tasks, with_processor}
 use Rattle.brd_kernel.specs.Waits.{priority_of, can_wait, with_wait, released_in, reason_of, unlisted, broken_off, ended_in, reordered_in}
 use Rattle.brd_kernel.specs.Services.{callers_priority}
-use Rattle.brd_kernel.specs.Waiting.{plain, semaphore_waiters, flag_waiters, senders, receivers, standing_for, mutex_waiters}
+use Rattle.brd_kernel.specs.Waiting.{plain, semaphore_waiters, flag_waiters, senders, receivers, standing_for, mutex_waiters, pool_waiters, mailbox_waiters}
 use Rattle.brd_kernel.proofs.who_waits.ListLemmas.{priority_in-plain, priority_in-placed, priority_in-first, apart-plain, apart-wanting, apart-placed}
 use Rattle.brd_kernel.proofs.WaitLemmas.{unlisted-only, reordered-only}
-use Rattle.brd_kernel.proofs.WalkLemmas.{Lacks, No-one, No-bits, No-room, No-datum, lacked, awaiting, in_semaphore, in_flag, in_senders, in_receivers, No-mutex, in_mutex}
+use Rattle.brd_kernel.proofs.WalkLemmas.{Lacks, No-one, No-bits, No-room, No-datum, lacked, awaiting, in_semaphore, in_flag, in_senders, in_receivers, No-mutex, in_mutex, No-block, in_pool, No-message, in_mailbox}
 use Rattle.brd_kernel.proofs.who_waits.StandingLemmas.{stands_in, stands-same, waits_by, waits, IsTimedBy, Stands, StandsIn}
 use Rattle.brd_kernel.proofs.who_waits.KeepingLemmas.{IsEntered, Rewrites, by-lists, by-rows, by-ending, by-beginning, by-priority, by-leaving-one, apart-rewritten}
 use Rattle.brd_kernel.proofs.who_waits.RowLemmas.{IsAsBefore, changed-before, ended-made, released-made, blocked-made, changed-made, row-small}
-use Rattle.brd_kernel.proofs.who_waits.WaitersLemmas.{plain-same, semaphore-rewrites, flag-rewrites, sender-rewrites, receiver-rewrites, mutex-rewrites}
+use Rattle.brd_kernel.proofs.who_waits.WaitersLemmas.{plain-same, semaphore-rewrites, flag-rewrites, sender-rewrites, receiver-rewrites, mutex-rewrites, pool-rewrites, mailbox-rewrites}
 use Rattle.brd_kernel.proofs.who_waits.LeavingLemmas.{or-false, sleeps-nowhere, out-of-none, unlisted-out}
 use Rattle.brd_kernel.proofs.who_waits.MovingLemmas.{IsMoved, moved-by-reason}
 use Rattle.brd_kernel.proofs.PricedLemmas.{priced, priced_in}
 use Rattle.brd_objects.specs.declared.mutex.Mutex.{Mutex}
 use Rattle.brd_objects.specs.Mutexes.{protocol_order, mutex_awaited}
+use Rattle.brd_objects.specs.Pools.{PoolState, pool_awaited}
+use Rattle.brd_objects.specs.Mailboxes.{MailboxState, mailbox_awaited}
 
 -- The parts of the kernel that say nothing of waits.
 
-pub lists-by : (k new : KernelState) → new.semaphores ≡ k.semaphores → new.flags ≡ k.flags → new.queues ≡ k.queues → new.mutexes ≡ k.mutexes →
+pub lists-by : (k new : KernelState) → new.semaphores ≡ k.semaphores → new.flags ≡ k.flags → new.queues ≡ k.queues → new.mutexes ≡ k.mutexes → new.pools ≡ k.pools → new.mailboxes ≡ k.mailboxes →
     (why : WaitReason) →
     standing_for new why ≡ standing_for k why
-lists-by k new semaphores flags queues mutexes reason.Sleep = refl
-lists-by k new semaphores flags queues mutexes reason.Delay = refl
-lists-by k new semaphores flags queues mutexes (reason.On kind.Semaphore object) = ap (λ table. semaphore_waiters (object_at table object)) semaphores
-lists-by k new semaphores flags queues mutexes (reason.On kind.Flag object) = ap (λ table. flag_waiters (object_at table object)) flags
-lists-by k new semaphores flags queues mutexes (reason.On kind.Room object) = ap (λ table. senders (object_at table object)) queues
-lists-by k new semaphores flags queues mutexes (reason.On kind.Datum object) = ap (λ table. receivers (object_at table object)) queues
-lists-by k new semaphores flags queues mutexes (reason.On kind.Mutex object) = ap (λ table. mutex_waiters (object_at table object)) mutexes
+lists-by k new semaphores flags queues mutexes pools mailboxes reason.Sleep = refl
+lists-by k new semaphores flags queues mutexes pools mailboxes reason.Delay = refl
+lists-by k new semaphores flags queues mutexes pools mailboxes (reason.On kind.Semaphore object) = ap (λ table. semaphore_waiters (object_at table object)) semaphores
+lists-by k new semaphores flags queues mutexes pools mailboxes (reason.On kind.Flag object) = ap (λ table. flag_waiters (object_at table object)) flags
+lists-by k new semaphores flags queues mutexes pools mailboxes (reason.On kind.Room object) = ap (λ table. senders (object_at table object)) queues
+lists-by k new semaphores flags queues mutexes pools mailboxes (reason.On kind.Datum object) = ap (λ table. receivers (object_at table object)) queues
+lists-by k new semaphores flags queues mutexes pools mailboxes (reason.On kind.Mutex object) = ap (λ table. mutex_waiters (object_at table object)) mutexes
+lists-by k new semaphores flags queues mutexes pools mailboxes (reason.On kind.Block object) = ap (λ table. pool_waiters (object_at table object)) pools
+lists-by k new semaphores flags queues mutexes pools mailboxes (reason.On kind.Message object) = ap (λ table. mailbox_waiters (object_at table object)) mailboxes
 
 pub parts-keep : (k new : KernelState) → new.tasks ≡ k.tasks → new.time ≡ k.time → new.semaphores ≡ k.semaphores → new.flags ≡ k.flags →
-    new.queues ≡ k.queues → new.mutexes ≡ k.mutexes → StandsIn [] k → StandsIn [] new
-parts-keep k new tasks time semaphores flags queues mutexes was =
-    by-lists [] new.tasks new.time (standing_for k) (standing_for new) (lists-by k new semaphores flags queues mutexes)
+    new.queues ≡ k.queues → new.mutexes ≡ k.mutexes → new.pools ≡ k.pools → new.mailboxes ≡ k.mailboxes → StandsIn [] k → StandsIn [] new
+parts-keep k new tasks time semaphores flags queues mutexes pools mailboxes was =
+    by-lists [] new.tasks new.time (standing_for k) (standing_for new) (lists-by k new semaphores flags queues mutexes pools mailboxes)
     (subst (λ t. Stands [] t new.time (standing_for k)) (sym tasks) (subst (λ m. Stands [] k.tasks m (standing_for k)) (sym time) was))
 
 pub processor-keeps : (k : KernelState) (cpu : ℕ) (p : Processor) → StandsIn [] k → StandsIn [] (with_processor k cpu p)
-processor-keeps k cpu p was = parts-keep k (with_processor k cpu p) refl refl refl refl refl refl was
+processor-keeps k cpu p was = parts-keep k (with_processor k cpu p) refl refl refl refl refl refl refl refl was
 
 -- Tasks of which none waits otherwise.
 pub tasks-keep : (k : KernelState) (t : TaskTable) → IsAsBefore k.tasks t → StandsIn [] k → StandsIn [] (with_tasks k t)
 tasks-keep k t before was =
-    by-lists [] t k.time (standing_for k) (standing_for (with_tasks k t)) (lists-by k (with_tasks k t) refl refl refl refl)
+    by-lists [] t k.time (standing_for k) (standing_for (with_tasks k t)) (lists-by k (with_tasks k t) refl refl refl refl refl refl)
     (by-rows [] k.tasks t k.time (standing_for k) before.long before.same was)
 
 -- A wait ends.
@@ -73,7 +77,7 @@ pub released-keep : (k : KernelState) (id answer : ℕ) (second : Option ℕ) (b
 released-keep k id answer second but was =
     let made = released-made k.tasks id answer second in
     by-lists but (released_with k.tasks id answer second) (with_due k.time id None) (standing_for k) (standing_for (released_in k id answer second))
-    (lists-by k (released_in k id answer second) refl refl refl refl)
+    (lists-by k (released_in k id answer second) refl refl refl refl refl refl)
     (by-ending id but k.tasks (released_with k.tasks id answer second) k.time (standing_for k) made.long made.now was)
 
 unlisted-stands : (k : KernelState) (id : ℕ) → StandsIn [] k → StandsIn (id ∷ []) (unlisted k id)
@@ -90,7 +94,7 @@ ended-keeps k id was =
     let made = ended-made k.tasks id in
     let out : KernelState = unlisted k id in
     by-lists [] (ended k.tasks id) (with_due k.time id None) (standing_for out) (standing_for (ended_in k id))
-    (lists-by out (ended_in k id) refl refl refl refl)
+    (lists-by out (ended_in k id) refl refl refl refl refl refl)
     (by-ending id [] k.tasks (ended k.tasks id) k.time (standing_for out) made.long made.now (unlisted-out k id was))
 
 -- one who sleeps stands in no list
@@ -148,7 +152,7 @@ begun-ready true k id why due entered task test there timed stood was =
     let small : id < 256 = subst (λ n. id < n) was.rows (row-small (nat_lt id (length k.tasks.rows)) k.tasks id task refl there) in
     let at_priority : IsEntered id why task.priority (standing_for k) (standing_for entered) =
     subst (λ p. IsEntered id why p (standing_for k) (standing_for entered)) (ap priority_of there) (stood small) in
-    by-lists [] new.tasks new.time (standing_for entered) (standing_for new) (lists-by entered new refl refl refl refl)
+    by-lists [] new.tasks new.time (standing_for entered) (standing_for new) (lists-by entered new refl refl refl refl refl refl)
     (by-beginning id task.priority why due k.tasks (through (blocked why) k.tasks id) k.time (standing_for k) (standing_for entered) made.long small
     (ap waits there ∙ ready-waits task.status task.priority test) made.now timed at_priority was)
 
@@ -248,6 +252,20 @@ enters-object k id object (No-mutex m there held) was small =
     (record { id = id; priority = p; wanted = tt }) m.waiters
     (f m).waiters (sym (plain-same (f m).waiters)) (ap mutex_waiters there ∙ sym (plain-same m.waiters))
     (mutex-rewrites f k object m there) was small
+enters-object k id object (No-block b there none) was small =
+    let p : ℕ = callers_priority k id in
+    let f : PoolState → PoolState = pool_awaited id p in
+    enters-placed k (standing_for (in_pool k id object)) (reason.On kind.Block object) b.order
+    (record { id = id; priority = p; wanted = tt }) b.waiters
+    (f b).waiters (sym (plain-same (f b).waiters)) (ap pool_waiters there ∙ sym (plain-same b.waiters))
+    (pool-rewrites f k object b there) was small
+enters-object k id object (No-message m there none) was small =
+    let p : ℕ = callers_priority k id in
+    let f : MailboxState → MailboxState = mailbox_awaited id p in
+    enters-placed k (standing_for (in_mailbox k id object)) (reason.On kind.Message object) m.order
+    (record { id = id; priority = p; wanted = tt }) m.waiters
+    (f m).waiters (sym (plain-same (f m).waiters)) (ap mailbox_waiters there ∙ sym (plain-same m.waiters))
+    (mailbox-rewrites f k object m there) was small
 
 -- Another priority.
 
@@ -264,7 +282,7 @@ priority-keeps k base id p task (Some why) there waiting was =
     let is : waits (task_at k.tasks id) ≡ Some (why, task.priority) = ap waits there ∙ ap (λ w. waits_by w task.priority) waiting in
     let made = changed-made k.tasks base id p why task there waiting in
     let stood : Stands [] k.tasks k.time (standing_for on) =
-    by-lists [] k.tasks k.time (standing_for k) (standing_for on) (lists-by k on refl refl refl refl) was in
+    by-lists [] k.tasks k.time (standing_for k) (standing_for on) (lists-by k on refl refl refl refl refl refl) was in
     let moved : (other : WaitReason) → IsMoved id p (standing_for new other) (standing_for on other) =
     moved-by-reason on k.tasks k.time id p task.priority why is stood in
     subst (λ x. Stands [] x new.time (standing_for new)) (sym (reordered-only on id p (Some why)).tasks)

@@ -234,6 +234,8 @@ fn kind_word(kind: WaitKind) -> u32
         WaitKind::Room => 16,
         WaitKind::Datum => 32,
         WaitKind::Mutex => 128,
+        WaitKind::Block => 0x2000,
+        WaitKind::Message => 64,
     }
 }
 

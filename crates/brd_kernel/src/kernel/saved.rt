@@ -5,7 +5,9 @@ ghost use Rattle.std.specs.Prelude.{◌≡◌, IfOk};
 use super::{CONSOLE_SIZE, Kernel};
 use crate::common::Common;
 use brd_base::NoMemory;
-use brd_objects::{SavedFlags, SavedMutexes, SavedQueues, SavedSemaphores};
+use brd_objects::{
+    SavedFlags, SavedMailboxes, SavedMutexes, SavedPools, SavedQueues, SavedSemaphores,
+};
 use std::marker::Model;
 
 /// A kernel that has room for nothing but what it holds: no more waiting tasks, data and console output. So a snapshot
@@ -16,6 +18,8 @@ pub struct SavedKernel {
     flags: SavedFlags,
     queues: SavedQueues,
     mutexes: SavedMutexes,
+    pools: SavedPools,
+    mailboxes: SavedMailboxes,
 }
 
 impl Model for SavedKernel {
@@ -24,9 +28,10 @@ impl Model for SavedKernel {
 
     ghost Value = { KernelState };
 
-    ghost view = { λ k. kernel_of k.common k.semaphores k.flags k.queues k.mutexes };
+    ghost view = { λ k. kernel_of k.common k.semaphores k.flags k.queues k.mutexes k.pools k.mailboxes };
 
-    ghost invariant = { λ k. IsCommon k.common (kernel_of k.common k.semaphores k.flags k.queues k.mutexes) };
+    ghost invariant = { λ k.
+        IsCommon k.common (kernel_of k.common k.semaphores k.flags k.queues k.mutexes k.pools k.mailboxes) };
 }
 
 /// Written out, so that a function that lets one go is proved with a call, and not with the end of each part.
@@ -38,6 +43,8 @@ impl Drop for SavedKernel {
             flags: _,
             queues: _,
             mutexes: _,
+            pools: _,
+            mailboxes: _,
         } = self;
     }
 }
@@ -53,6 +60,8 @@ impl Kernel {
             flags: self.flags.save()?,
             queues: self.queues.save()?,
             mutexes: self.mutexes.save()?,
+            pools: self.pools.save()?,
+            mailboxes: self.mailboxes.save()?,
         })
     }
 }
@@ -68,6 +77,8 @@ impl SavedKernel {
             flags: self.flags.restore()?,
             queues: self.queues.restore()?,
             mutexes: self.mutexes.restore()?,
+            pools: self.pools.restore()?,
+            mailboxes: self.mailboxes.restore()?,
         })
     }
 }

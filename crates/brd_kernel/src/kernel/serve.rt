@@ -114,6 +114,12 @@ impl Kernel {
             Call::TlocMtx(id, timeout) => self.tloc_mtx(caller, id, timeout),
             Call::UnlMtx(id) => self.unl_mtx(caller, id),
             Call::RefMtx(id, word) => self.ref_mtx(id, word),
+            Call::TgetMpf(id, timeout) => self.tget_mpf(caller, id, timeout),
+            Call::RelMpf(id, block) => self.rel_mpf(id, block),
+            Call::SndMbx(id, message, priority) => self.snd_mbx(id, message, priority),
+            Call::TrcvMbx(id, timeout) => self.trcv_mbx(caller, id, timeout),
+            Call::RefMpf(id, word) => self.ref_mpf(id, word),
+            Call::RefMbx(id, word) => self.ref_mbx(id, word),
         }
     }
 

@@ -114,6 +114,8 @@ impl Kernel {
             WaitKind::Flag => self.flags.leave(id),
             WaitKind::Room | WaitKind::Datum => self.queues.leave(id),
             WaitKind::Mutex => self.mutexes.leave(id),
+            WaitKind::Block => self.pools.leave(id),
+            WaitKind::Message => self.mailboxes.leave(id),
         }
     }
 
@@ -149,6 +151,8 @@ impl Kernel {
             WaitKind::Flag => self.flags.reorder(id, priority),
             WaitKind::Room | WaitKind::Datum => self.queues.reorder(id, priority),
             WaitKind::Mutex => self.mutexes.reorder(id, priority),
+            WaitKind::Block => self.pools.reorder(id, priority),
+            WaitKind::Message => self.mailboxes.reorder(id, priority),
         }
     }
 

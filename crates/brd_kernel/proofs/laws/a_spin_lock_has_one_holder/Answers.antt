@@ -5,7 +5,7 @@ use Rattle.brd_kernel.proofs.SpinLemmas.{locks-locking, locking-locks, made-lock
 use Rattle.brd_kernel.proofs.laws.a_spin_lock_has_one_holder.Goals as goal
 
 pub returns-clause-made : goal.returns-clause-made
-returns-clause-made c standard processors setups lines semaphores flags queues spin_locks mutexes =
+returns-clause-made c standard processors setups lines semaphores flags queues spin_locks mutexes pools mailboxes =
     locking-locks _ (made-locking _ processors refl)
 
 pub returns-clause-tick : goal.returns-clause-tick

@@ -1,4 +1,3 @@
-use Rattle.std.proofs.Common.{refl}
 use Rattle.brd_sysgate.proofs.TableLemmas.{profile-refused, others-same}
 use Rattle.brd_sysgate.proofs.laws.the_profile_alone_has_more_calls.Goals as goal
 

@@ -7,7 +7,7 @@ use Rattle.brd_kernel.proofs.kernel.Kernel.release_satisfied.Goals as goal
 
 turn : (c : goal.After-release) → IsTurn c.loop-task.self c.release.new.self c.args.id
 turn c =
-    let k : KernelState = kernel_of c.self.inside.common c.self.inside.semaphores c.self.inside.flags c.self.inside.queues c.self.inside.mutexes in
+    let k : KernelState = kernel_of c.self.inside.common c.self.inside.semaphores c.self.inside.flags c.self.inside.queues c.self.inside.mutexes c.self.inside.pools c.self.inside.mailboxes in
     subst (λ s. IsTurn s c.release.new.self c.args.id) c.self.view_is
     (released-turn k c.release.new.self c.next_satisfied.new.self c.args.id c.in-Some.task c.in-Some.pattern c.next_satisfied.ensures.bits
     (sym c.next_satisfied.ensures.who ∙ c.in-Some.is) c.next_satisfied.ensures.is c.release.ensures)
@@ -20,6 +20,6 @@ loop-task-preserved c = (turn c).same ∙ c.loop-task.invariant
 
 pub returns : goal.returns
 returns c =
-    let k : KernelState = kernel_of c.self.inside.common c.self.inside.semaphores c.self.inside.flags c.self.inside.queues c.self.inside.mutexes in
+    let k : KernelState = kernel_of c.self.inside.common c.self.inside.semaphores c.self.inside.flags c.self.inside.queues c.self.inside.mutexes c.self.inside.pools c.self.inside.mailboxes in
     released-end k c.next_satisfied.new.self c.args.id (sym c.next_satisfied.ensures.who ∙ c.in_default.is) c.next_satisfied.ensures.is
     ∙ ap (λ s. with_satisfied_released s c.args.id) c.self.view_is ∙ c.loop-task.invariant

@@ -3,9 +3,9 @@ use Rattle.brd_kernel.proofs.CommonLemmas.{copied, copied-common}
 use Rattle.brd_kernel.proofs.kernel.Kernel.try_copy.Goals as goal
 
 pub invariant_of-result : goal.invariant_of-result
-invariant_of-result c = (copied-common c.self.inside.common c.in_ok-copy.field-0 _ _ _ _ _ _ _ _ c.in_ok-copy.ensures.is c.in_ok-try_copy.ensures c.in_ok-try_copy-2.ensures c.in_ok-try_copy-3.ensures c.in_ok-try_copy-4.ensures c.self.invariant.0, c.in_ok-copy.ensures.room)
+invariant_of-result c = (copied-common c.self.inside.common c.in_ok-copy.field-0 _ _ _ _ _ _ _ _ _ _ _ _ c.in_ok-copy.ensures.is c.in_ok-try_copy.ensures c.in_ok-try_copy-2.ensures c.in_ok-try_copy-3.ensures c.in_ok-try_copy-4.ensures c.in_ok-try_copy-5.ensures c.in_ok-try_copy-6.ensures c.self.invariant.0, c.in_ok-copy.ensures.room)
 
 pub returns : goal.returns
 returns c =
-    copied c.self.inside.common c.in_ok-copy.field-0 _ _ _ _ _ _ _ _ c.in_ok-copy.ensures.is c.in_ok-try_copy.ensures c.in_ok-try_copy-2.ensures c.in_ok-try_copy-3.ensures c.in_ok-try_copy-4.ensures
+    copied c.self.inside.common c.in_ok-copy.field-0 _ _ _ _ _ _ _ _ _ _ _ _ c.in_ok-copy.ensures.is c.in_ok-try_copy.ensures c.in_ok-try_copy-2.ensures c.in_ok-try_copy-3.ensures c.in_ok-try_copy-4.ensures c.in_ok-try_copy-5.ensures c.in_ok-try_copy-6.ensures
     ∙ c.self.view_is
