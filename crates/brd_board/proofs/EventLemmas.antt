@@ -12,6 +12,7 @@ use Rattle.brd_mem.specs.declared.image.Image.{Image}
 use Rattle.brd_config.specs.declared.objects.TaskConfig.{TaskConfig}
 use Rattle.brd_config.specs.Configuration.{Configuration}
 use Rattle.brd_tasks.specs.declared.task.TaskSetup.{TaskSetup}
+use Rattle.brd_objects.specs.declared.block.PoolSetup.{PoolSetup}
 use Rattle.brd_tasks.specs.declared.task.Request.TheVariants.{Assigned}
 use Rattle.brd_tasks.specs.Tasks.{activated}
 use Rattle.brd_time.specs.Time.{last_count, advanced}
@@ -136,20 +137,21 @@ IsBooted P (Err fault) = Unit {0}
 
 abbrev pub Begins : (BoardState → Type 0) → Configuration → Result (List TaskSetup) BootFault → Type 0
 Begins P config setups =
-    (s : List TaskSetup) (l : List LineSetup) (m : Memory) → setups ≡ Ok s → P (booted_board (booted_kernel s l config) m)
+    (s : List TaskSetup) (l : List LineSetup) (p : List PoolSetup) (m : Memory) → setups ≡ Ok s → P (booted_board (booted_kernel s l p config) m)
 
 booted-by : (P : BoardState → Type 0) (config : Configuration) (memory : Result Memory BootFault) (setups : Result (List TaskSetup) BootFault)
-    (lines : Result (List LineSetup) BootFault) → Begins P config setups →
-    IsBooted P (memory >>= (λ m. setups >>= (λ s. lines >>= (λ l. Ok (booted_board (booted_kernel s l config) m)))))
-booted-by P config (Err fault) setups lines begins = tt
-booted-by P config (Ok m) (Err fault) lines begins = tt
-booted-by P config (Ok m) (Ok s) (Err fault) begins = tt
-booted-by P config (Ok m) (Ok s) (Ok l) begins = begins s l m refl
+    (lines : Result (List LineSetup) BootFault) (pools : Result (List PoolSetup) BootFault) → Begins P config setups →
+    IsBooted P (memory >>= (λ m. setups >>= (λ s. lines >>= (λ l. pools >>= (λ p. Ok (booted_board (booted_kernel s l p config) m))))))
+booted-by P config (Err fault) setups lines pools begins = tt
+booted-by P config (Ok m) (Err fault) lines pools begins = tt
+booted-by P config (Ok m) (Ok s) (Err fault) pools begins = tt
+booted-by P config (Ok m) (Ok s) (Ok l) (Err fault) begins = tt
+booted-by P config (Ok m) (Ok s) (Ok l) (Ok p) begins = begins s l p m refl
 
 booted : (P : BoardState → Type 0) (image : Image) (config : Configuration) → Begins P config (setups_of config.ram image.symbols config.tasks) →
     IsBooted P (boot image config)
 unfolding boot
-booted P image config begins = booted-by P config _ (setups_of config.ram image.symbols config.tasks) _ begins
+booted P image config begins = booted-by P config _ (setups_of config.ram image.symbols config.tasks) _ _ begins
 
 -- what holds of each board that boot may make, holds of the one that it makes
 pub boot-begins : (P : BoardState → Type 0) (image : Image) (config : Configuration) (b : BoardState) →

@@ -54,5 +54,5 @@ pub boot-settled : (image : Image) (config : Configuration) (b : BoardState) (ev
 boot-settled image config b events is =
     after-kept settled-kept b events
     (boot-begins (λ x. IsSettled x.kernel) image config b
-    (λ s l m good. dispatch-settles (with_tasks (made_kernel config.standard config.processors s l config.semaphores config.flags config.queues config.spin_locks config.mutexes) (all_started (made s) config.tasks)))
+    (λ s l p m good. dispatch-settles (with_tasks (made_kernel config.standard config.processors s l config.semaphores config.flags config.queues config.spin_locks config.mutexes p config.mailboxes) (all_started (made s) config.tasks)))
     is)

@@ -2,6 +2,7 @@ pub mod LoadLemmas
 pub mod BootLemmas
 pub mod LinkLemmas
 pub mod SetupLemmas
+mod PoolLemmas
 pub mod EventLemmas
 pub mod LawLemmas
 pub mod conditional_stores

@@ -127,6 +127,8 @@ record Stays (k new : KernelState) : Type 0 where
   flags : new.flags ≡ k.flags
   queues : new.queues ≡ k.queues
   mutexes : new.mutexes ≡ k.mutexes
+  pools : new.pools ≡ k.pools
+  mailboxes : new.mailboxes ≡ k.mailboxes
   spin_locks : new.spin_locks ≡ k.spin_locks
   lines : new.lines ≡ k.lines
   time : new.time ≡ k.time
@@ -143,6 +145,8 @@ stays k cpu executor.Handler s = record {
   flags = refl;
   queues = refl;
   mutexes = refl;
+  pools = refl;
+  mailboxes = refl;
   spin_locks = refl;
   lines = refl;
   time = refl;
@@ -158,6 +162,8 @@ stays k cpu (executor.Task id) s = record {
   flags = refl;
   queues = refl;
   mutexes = refl;
+  pools = refl;
+  mailboxes = refl;
   spin_locks = refl;
   lines = refl;
   time = refl;
@@ -194,6 +200,8 @@ own-instruction b cpu who left was executes =
       flags = rest.flags;
       queues = rest.queues;
       mutexes = rest.mutexes;
+      pools = rest.pools;
+      mailboxes = rest.mailboxes;
       spin_locks = rest.spin_locks;
       lines = rest.lines;
       time = rest.time;

@@ -4,6 +4,7 @@ use Rattle.std.specs.Prelude.{Option, None, Some, Ok}
 use Rattle.brd_mem.specs.declared.image.Image.{Image}
 use Rattle.brd_config.specs.Configuration.{Configuration}
 use Rattle.brd_tasks.specs.declared.task.TaskSetup.{TaskSetup}
+use Rattle.brd_objects.specs.declared.block.PoolSetup.{PoolSetup}
 use Rattle.brd_tasks.specs.declared.task.Request.TheVariants.{Assigned}
 use Rattle.brd_kernel.specs.declared.processor.LineSetup.{LineSetup}
 use Rattle.brd_kernel.specs.Making.{made_kernel}
@@ -53,16 +54,16 @@ priorities-kept = record {
 pub happens-has : (b : BoardState) (event : Event) → IsPrioritized b.kernel → IsPrioritized (happens b event).board.kernel
 happens-has b event was = happens-kept priorities-kept b event was
 
-booted-has : (config : Configuration) (s : List TaskSetup) (l : List LineSetup) → IsPrioritized (booted_kernel s l config)
-booted-has config s l =
-    let first : KernelState = made_kernel config.standard config.processors s l config.semaphores config.flags config.queues config.spin_locks config.mutexes in
+booted-has : (config : Configuration) (s : List TaskSetup) (l : List LineSetup) (p : List PoolSetup) → IsPrioritized (booted_kernel s l p config)
+booted-has config s l p =
+    let first : KernelState = made_kernel config.standard config.processors s l config.semaphores config.flags config.queues config.spin_locks config.mutexes p config.mailboxes in
     let started : KernelState = with_tasks first (all_started first.tasks config.tasks) in
     parts-have started (dispatched started) refl refl refl
     (fresh-has started
     (all-started-kept {P = Fresh} (λ k id was. activated-fresh k id Assigned was) first config.tasks
-    (made-fresh config.standard config.processors s l config.semaphores config.flags config.queues config.spin_locks config.mutexes)))
+    (made-fresh config.standard config.processors s l config.semaphores config.flags config.queues config.spin_locks config.mutexes p config.mailboxes)))
 
 pub boot-has : (image : Image) (config : Configuration) (b : BoardState) (events : List Event) → boot image config ≡ Ok b →
     IsPrioritized (after b events).kernel
 boot-has image config b events is =
-    after-kept priorities-kept b events (boot-begins (λ x. IsPrioritized x.kernel) image config b (λ s l m good. booted-has config s l) is)
+    after-kept priorities-kept b events (boot-begins (λ x. IsPrioritized x.kernel) image config b (λ s l p m good. booted-has config s l p) is)

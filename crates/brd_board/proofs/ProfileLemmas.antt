@@ -48,7 +48,7 @@ pub profile-stays : (image : Image) (config : Configuration) (b : BoardState) (e
     (after b events).kernel.standard ≡ config.standard
 profile-stays image config b events is =
     after-kept (has-kept config.standard) b events
-    (boot-begins (λ x. x.kernel.standard ≡ config.standard) image config b (λ s l m good. refl) is)
+    (boot-begins (λ x. x.kernel.standard ≡ config.standard) image config b (λ s l p m good. refl) is)
 
 pub more-refused : (image : Image) (config : Configuration) (b : BoardState) (events : List Event) (s : State) (cpu : ℕ) →
     boot image config ≡ Ok b → config.standard ≡ false → 62 < read s 2 → read_of s (caller_of (after b events).kernel cpu) ≡ Err Rsfn

@@ -19,6 +19,7 @@ use Rattle.brd_mem.specs.Memory.{contains}
 use Rattle.brd_config.specs.declared.objects.TaskConfig.{TaskConfig}
 use Rattle.brd_config.specs.Configuration.{Configuration, IsTask, IsConfiguration}
 use Rattle.brd_tasks.specs.declared.task.TaskSetup.{TaskSetup}
+use Rattle.brd_objects.specs.declared.block.PoolSetup.{PoolSetup}
 use Rattle.brd_tasks.specs.Ready.{IsSetup}
 use Rattle.brd_tasks.specs.Tasks.{made, task_at, ready_on}
 use Rattle.brd_kernel.specs.declared.processor.LineSetup.{LineSetup}
@@ -116,9 +117,9 @@ within c valid i task below =
       stack_size = is.stack_size;
     }
 
-booted-runs : (config : Configuration) (s : List TaskSetup) (l : List LineSetup) → All IsSetup s → IsRunning (booted_kernel s l config)
-booted-runs config s l good =
-    let first : KernelState = made_kernel config.standard config.processors s l config.semaphores config.flags config.queues config.spin_locks config.mutexes in
+booted-runs : (config : Configuration) (s : List TaskSetup) (l : List LineSetup) (p : List PoolSetup) → All IsSetup s → IsRunning (booted_kernel s l p config)
+booted-runs config s l p good =
+    let first : KernelState = made_kernel config.standard config.processors s l config.semaphores config.flags config.queues config.spin_locks config.mutexes p config.mailboxes in
     let on : KernelState = with_tasks first (all_started (made s) config.tasks) in
     dispatch-runs on (runs-hold on (all-started-kept {P = IsRunning} started-runs first config.tasks (made-runs first config.processors s refl refl good)))
 
@@ -128,7 +129,7 @@ boot-runs image config b events valid is =
     let good : AreGood (setups_of config.ram image.symbols config.tasks) =
     setups-good config.ram image.symbols config.tasks (base + config.ram) (within config valid) in
     after-kept running-kept b events
-    (boot-begins (λ x. IsRunning x.kernel) image config b (λ s l m are. booted-runs config s l (subst AreGood are good)) is)
+    (boot-begins (λ x. IsRunning x.kernel) image config b (λ s l p m are. booted-runs config s l p (subst AreGood are good)) is)
 
 -- Who is ready.
 

@@ -32,7 +32,7 @@ abbrev pub behind : {X : Type 0} → List X → Result (List X) BootFault → Re
 behind xs (Ok more) = Ok (xs ++ more)
 behind xs (Err fault) = Err fault
 
-behind-more : {X : Type 0} (xs : List X) (x : X) (more : Result (List X) BootFault) → behind (xs ++ x ∷ []) more ≡ behind xs (more >>= (λ m. Ok (x ∷ m)))
+pub behind-more : {X : Type 0} (xs : List X) (x : X) (more : Result (List X) BootFault) → behind (xs ++ x ∷ []) more ≡ behind xs (more >>= (λ m. Ok (x ∷ m)))
 behind-more xs x (Ok more) = ap Ok (append_assoc xs (x ∷ []) more)
 behind-more xs x (Err fault) = refl
 

@@ -10,6 +10,7 @@ use Rattle.brd_mem.specs.Memory.{Memory}
 use Rattle.brd_mem.specs.declared.image.Image.{Image}
 use Rattle.brd_config.specs.Configuration.{Configuration}
 use Rattle.brd_tasks.specs.declared.task.TaskSetup.{TaskSetup}
+use Rattle.brd_objects.specs.declared.block.PoolSetup.{PoolSetup}
 use Rattle.brd_tasks.specs.declared.task.Request.TheVariants.{Assigned}
 use Rattle.brd_tasks.specs.Tasks.{activated}
 use Rattle.brd_time.specs.Time.{last_count, advanced}
@@ -197,11 +198,11 @@ after-locking b (event ∷ events) was = after-locking (happens b event).board e
 
 -- Boot.
 
-booted-locking : (config : Configuration) (s : List TaskSetup) (l : List LineSetup) →
-    IsLocking (booted_kernel s l config)
-booted-locking config s l =
+booted-locking : (config : Configuration) (s : List TaskSetup) (l : List LineSetup) (p : List PoolSetup) →
+    IsLocking (booted_kernel s l p config)
+booted-locking config s l p =
     let first : KernelState =
-    made_kernel config.standard config.processors s l config.semaphores config.flags config.queues config.spin_locks config.mutexes in
+    made_kernel config.standard config.processors s l config.semaphores config.flags config.queues config.spin_locks config.mutexes p config.mailboxes in
     dispatch-locking (with_tasks first (all_started first.tasks config.tasks))
     (all-started-kept {P = IsLocking}
     (λ k id was. locking-same k (with_tasks k (activated k.tasks id Assigned))
@@ -213,7 +214,7 @@ boot-locking : (image : Image) (config : Configuration) (b : BoardState) (events
     IsLocking (after b events).kernel
 boot-locking image config b events is =
     after-locking b events
-    (boot-begins (λ x. IsLocking x.kernel) image config b (λ s l m good. booted-locking config s l) is)
+    (boot-begins (λ x. IsLocking x.kernel) image config b (λ s l p m good. booted-locking config s l p) is)
 
 pub boot-locks : (image : Image) (config : Configuration) (b : BoardState) (events : List Event) →
     boot image config ≡ Ok b →

@@ -4,6 +4,7 @@ use Rattle.std.specs.Prelude.{Ok}
 use Rattle.brd_mem.specs.declared.image.Image.{Image}
 use Rattle.brd_config.specs.Configuration.{Configuration}
 use Rattle.brd_tasks.specs.declared.task.TaskSetup.{TaskSetup}
+use Rattle.brd_objects.specs.declared.block.PoolSetup.{PoolSetup}
 use Rattle.brd_tasks.specs.declared.task.Request.TheVariants.{Assigned}
 use Rattle.brd_kernel.specs.declared.processor.LineSetup.{LineSetup}
 use Rattle.brd_kernel.specs.Kernel.{KernelState, with_tasks}
@@ -40,14 +41,14 @@ waits-kept = record {
 pub happens-keeps : (b : BoardState) (event : Event) → WaitsAreKept b.kernel → WaitsAreKept (happens b event).board.kernel
 happens-keeps b event was = happens-kept waits-kept b event was
 
-booted-keeps : (config : Configuration) (s : List TaskSetup) (l : List LineSetup) → WaitsAreKept (booted_kernel s l config)
-booted-keeps config s l =
-    let first : KernelState = made_kernel config.standard config.processors s l config.semaphores config.flags config.queues config.spin_locks config.mutexes in
+booted-keeps : (config : Configuration) (s : List TaskSetup) (l : List LineSetup) (p : List PoolSetup) → WaitsAreKept (booted_kernel s l p config)
+booted-keeps config s l p =
+    let first : KernelState = made_kernel config.standard config.processors s l config.semaphores config.flags config.queues config.spin_locks config.mutexes p config.mailboxes in
     dispatched-keeps (with_tasks first (all_started first.tasks config.tasks))
     (all-started-kept {P = WaitsAreKept} (λ k id was. activated-keeps k id Assigned was) first config.tasks
-    (made-keeps config.standard config.processors s l config.semaphores config.flags config.queues config.spin_locks config.mutexes))
+    (made-keeps config.standard config.processors s l config.semaphores config.flags config.queues config.spin_locks config.mutexes p config.mailboxes))
 
 pub boot-keeps : (image : Image) (config : Configuration) (b : BoardState) (events : List Event) → boot image config ≡ Ok b →
     WaitsAreKept (after b events).kernel
 boot-keeps image config b events is =
-    after-kept waits-kept b events (boot-begins (λ x. WaitsAreKept x.kernel) image config b (λ s l m good. booted-keeps config s l) is)
+    after-kept waits-kept b events (boot-begins (λ x. WaitsAreKept x.kernel) image config b (λ s l p m good. booted-keeps config s l p) is)

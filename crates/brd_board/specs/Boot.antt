@@ -15,12 +15,13 @@ use Rattle.brd_config.specs.declared.objects.Stack.TheVariants.{Automatic}
 use Rattle.brd_config.specs.declared.objects.TaskConfig.{TaskConfig}
 use Rattle.brd_config.specs.Configuration.{Configuration}
 use Rattle.brd_tasks.specs.declared.task.TaskSetup.{TaskSetup}
+use Rattle.brd_objects.specs.declared.block.PoolSetup.{PoolSetup}
 use Rattle.brd_kernel.specs.declared.processor.LineSetup.{LineSetup}
 use Rattle.brd_kernel.specs.Kernel.{KernelState, with_tasks}
 use Rattle.brd_kernel.specs.Making.{made_kernel}
 use Rattle.brd_kernel.specs.Dispatch.{dispatched}
 use Rattle.brd_board.specs.Board.{BoardState}
-use Rattle.brd_board.specs.Setup.{setups_of, handlers_of, ta_act, all_started}
+use Rattle.brd_board.specs.Setup.{setups_of, handlers_of, pools_of, ta_act, all_started}
 use Rattle.brd_board.specs.declared.boot.BootFault.{BootFault}
 use Rattle.brd_board.specs.declared.boot.BootFault.TheVariants.{Outside}
 
@@ -41,25 +42,26 @@ loaded order size segments = if are_inside size segments then Ok (memory_of orde
 
 -- the kernel at count 0: its objects and the handlers of its lines are as configured, its tasks with TA_ACT have been
 -- started, and each processor runs its first ready task
-abbrev pub booted_kernel : List TaskSetup → List LineSetup → Configuration → KernelState
-booted_kernel setups lines config =
+abbrev pub booted_kernel : List TaskSetup → List LineSetup → List PoolSetup → Configuration → KernelState
+booted_kernel setups lines pools config =
     let made = made_kernel config.standard config.processors setups lines config.semaphores config.flags config.queues
-    config.spin_locks config.mutexes in
+    config.spin_locks config.mutexes pools config.mailboxes in
     dispatched (with_tasks made (all_started made.tasks config.tasks))
 
 -- the board as boot leaves it: without links and faults
 abbrev pub booted_board : KernelState → Memory → BoardState
 booted_board kernel memory = record { kernel = kernel; memory = memory; links = []; faults = replicate 9 None }
 
--- The board that an image and a configuration make, or the first fault: of the segments, of the tasks, of the handlers.
--- Its byte order is the image's.
+-- The board that an image and a configuration make, or the first fault: of the segments, of the tasks, of the handlers,
+-- of the memory pools. Its byte order is the image's.
 -- Tasks start where the configuration says, whatever entry the image names.
 unfoldable pub boot : Image → Configuration → Result BoardState BootFault
 boot image config = do
   memory ← loaded image.order config.ram image.segments
   setups ← setups_of config.ram image.symbols config.tasks
   lines ← handlers_of config.ram image.symbols config.handlers
-  Ok (booted_board (booted_kernel setups lines config) memory)
+  pools ← pools_of config.ram image.symbols config.tasks config.pools
+  Ok (booted_board (booted_kernel setups lines pools config) memory)
 
 -- Words: their image is booted with 64 KiB of RAM and one task, which starts at RAM's first address.
 
@@ -91,6 +93,8 @@ words_config =
       queues = [];
       spin_locks = [];
       mutexes = [];
+      pools = [];
+      mailboxes = [];
       handlers = [];
     }
 
@@ -107,5 +111,5 @@ memory_of_words words =
 abbrev pub boot_words : List ℕ → Result BoardState BootFault
 boot_words words =
     if nat_le (length words) 16384
-    then Ok (booted_board (booted_kernel (words_setup ∷ []) [] words_config) (memory_of_words words))
+    then Ok (booted_board (booted_kernel (words_setup ∷ []) [] [] words_config) (memory_of_words words))
     else Err Outside

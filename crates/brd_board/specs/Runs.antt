@@ -40,6 +40,8 @@ pub record ChangesOnlyItsOwn (b : BoardState) (event : Event) (address : ℕ) (n
   pub flags : new.kernel.flags ≡ b.kernel.flags
   pub queues : new.kernel.queues ≡ b.kernel.queues
   pub mutexes : new.kernel.mutexes ≡ b.kernel.mutexes
+  pub pools : new.kernel.pools ≡ b.kernel.pools
+  pub mailboxes : new.kernel.mailboxes ≡ b.kernel.mailboxes
   -- (who holds a spin lock, its processor says)
   pub spin_locks : new.kernel.spin_locks ≡ b.kernel.spin_locks
   pub lines : new.kernel.lines ≡ b.kernel.lines

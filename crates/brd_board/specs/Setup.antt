@@ -1,8 +1,8 @@
--- What a configuration makes of an image: where each task starts and where its stack lies, which tasks are started, and
--- where the handler of each interrupt line starts. Where the configuration names a symbol of the image, its value is
+-- What a configuration makes of an image: where each task starts and where its stack lies, which tasks are started, where
+-- the handler of each interrupt line starts, and where the blocks of each memory pool lie. Where the configuration names a symbol of the image, its value is
 -- meant. The first fault in the order of the statements is answered; of one statement first all its symbols are looked
 -- up, then its addresses are tested.
-use Rattle.std.specs.Prelude.{ℕ, ◌+◌, ◌-◌, ◌%◌, ◌==◌, Bool, true, false, ◌&&◌, if◌then◌else◌, List, [], ◌∷◌, Result, Ok}
+use Rattle.std.specs.Prelude.{ℕ, ◌+◌, ◌-◌, ◌*◌, ◌%◌, ◌==◌, Bool, true, false, ◌&&◌, if◌then◌else◌, List, [], ◌∷◌, Result, Ok}
 use Rattle.std.specs.Prelude.{Err}
 use Rattle.std.specs.Int.RustNames.{bit_and}
 use Rattle.brd_base.specs.Space.{base}
@@ -17,6 +17,9 @@ use Rattle.brd_config.specs.declared.objects.Stack.{Stack}
 use Rattle.brd_config.specs.declared.objects.Stack.TheVariants.{Automatic, At}
 use Rattle.brd_config.specs.declared.objects.TaskConfig.{TaskConfig}
 use Rattle.brd_config.specs.declared.objects.HandlerConfig.{HandlerConfig}
+use Rattle.brd_config.specs.declared.objects.PoolConfig.{PoolConfig}
+use Rattle.brd_objects.specs.declared.block.PoolSetup.{PoolSetup}
+use Rattle.brd_objects.specs.Pools.{distance_of}
 use Rattle.brd_tasks.specs.declared.task.TaskSetup.{TaskSetup}
 use Rattle.brd_tasks.specs.declared.task.Request.TheVariants.{Assigned}
 use Rattle.brd_tasks.specs.Tasks.{TaskTable, activated}
@@ -25,6 +28,8 @@ use Rattle.brd_board.specs.declared.boot.BootFault.{BootFault}
 use Rattle.brd_board.specs.declared.boot.BootFault.TheVariants.{NoMemory, UnknownSymbol, Outside}
 use Rattle.brd_board.specs.declared.setup.Region.{Region}
 use Rattle.brd_board.specs.declared.setup.Placed.{Placed}
+use Rattle.brd_board.specs.declared.pools.Area.{Area}
+use Rattle.brd_board.specs.declared.pools.PlacedPool.{PlacedPool}
 
 -- a number as it stands, or the value of the symbol that is named
 abbrev pub value_of : List Symbol → Operand → Result ℕ BootFault
@@ -117,6 +122,66 @@ handlers_of size symbols (handler ∷ handlers) = do
   address ← handler_address size symbols handler.address
   lines ← handlers_of size symbols handlers
   Ok (line_of handler address ∷ lines)
+
+-- Memory pools (own choice where they lie).
+
+-- where the next area that the configuration leaves open ends, after a stack
+abbrev pub below_stack : ℕ → ℕ → Stack → ℕ
+below_stack free stack_size Automatic = free - rounded_up stack_size
+below_stack free stack_size (At operand) = free
+
+-- after all tasks' stacks
+unfoldable pub below_stacks : ℕ → List TaskConfig → ℕ
+below_stacks free [] = free
+below_stacks free (task ∷ tasks) = below_stacks (below_stack free task.stack_size task.stack) tasks
+
+-- how many bytes the blocks of a pool have
+abbrev pub bytes_of_pool : PoolConfig → ℕ
+bytes_of_pool pool = pool.count * distance_of pool.size
+
+-- An area that the configuration leaves open has its bytes just below `free`, and the next one ends where this one
+-- begins. Where it has more bytes than there are addresses below `free`, it begins at 0, which is outside of RAM. One
+-- that the configuration places begins there, and `free` stays.
+abbrev pub area_by : List Symbol → ℕ → ℕ → Stack → Result Area BootFault
+area_by symbols free bytes Automatic = Ok (record { low = free - bytes; free = free - bytes })
+area_by symbols free bytes (At operand) = do
+  low ← value_of symbols operand
+  Ok (record { low = low; free = free })
+
+-- the area of a pool, where the next one that the configuration leaves open ends at `free`
+unfoldable pub area_of : List Symbol → ℕ → PoolConfig → Result Area BootFault
+area_of symbols free pool = area_by symbols free (bytes_of_pool pool) pool.area
+
+-- the pool as its statement says it, with its first block at the start of its area
+abbrev pub laid_in : PoolConfig → Area → PlacedPool
+laid_in pool area = record {
+  setup = record {
+    id = pool.id;
+    attributes = pool.attributes;
+    count = pool.count;
+    distance = distance_of pool.size;
+    start = area.low;
+  };
+  free = area.free;
+}
+
+-- a pool whose blocks are aligned, and lie in a RAM of that size
+unfoldable pub placed_pool : ℕ → List Symbol → ℕ → PoolConfig → Result PlacedPool BootFault
+placed_pool size symbols free pool = do
+  area ← area_of symbols free pool
+  if area.low % 4 == 0 && contains size area.low (bytes_of_pool pool) then Ok (laid_in pool area) else Err Outside
+
+-- the pools in the order of their statements
+unfoldable pub pools_from : ℕ → List Symbol → ℕ → List PoolConfig → Result (List PoolSetup) BootFault
+pools_from size symbols free [] = Ok []
+pools_from size symbols free (pool ∷ pools) = do
+  placed ← placed_pool size symbols free pool
+  setups ← pools_from size symbols placed.free pools
+  Ok (placed.setup ∷ setups)
+
+-- all pools: the first area that the configuration leaves open ends where the lowest such stack begins
+abbrev pub pools_of : ℕ → List Symbol → List TaskConfig → List PoolConfig → Result (List PoolSetup) BootFault
+pools_of size symbols tasks pools = pools_from size symbols (below_stacks (base + size) tasks) pools
 
 abbrev pub ta_act : ℕ
 ta_act = 2

@@ -40,6 +40,7 @@ use crate::event::{Event, Report};
 use crate::executing::{Ended, execute};
 use crate::links::end_links;
 use crate::load::loaded;
+use crate::pools::pools_of;
 use crate::setup::{handlers_of, setups_of, start_all};
 use crate::snapshot::Snapshot;
 use crate::view::Fault;
@@ -49,6 +50,7 @@ use brd_exec::{Context, Outcome};
 use brd_kernel::{Executor, Kernel, LineSetup, Spin, Standing, TaskId, TaskSetup, TaskView};
 use brd_link::Links;
 use brd_mem::{Image, Ram};
+use brd_objects::PoolSetup;
 use brd_sysgate::call;
 use brd_word::{Order, word_of};
 use std::alloc::Global;
@@ -95,7 +97,7 @@ impl Drop for Board {
 impl Board {
     /// The board that an image and a configuration make, in the image's byte order. Its tasks with TA_ACT have been
     /// started, and no interrupt is pending. A fault is the first one: of the segments, of the tasks in the order of
-    /// their statements, of the handlers in theirs.
+    /// their statements, of the handlers in theirs, of the memory pools in theirs.
     #[tactic(auto, unfolding(crate::specs::Boot::boot))]
     pub fn boot(alloc: Global, image: &Image, config: &Config) -> Result<Board, BootFault>
         requires { IsLoadable image.now }
@@ -106,8 +108,15 @@ impl Board {
         let tasks = config.tasks.as_slice();
         let setups = setups_of(alloc, &ram, symbols, tasks)?;
         let lines = handlers_of(alloc, &ram, symbols, config.handlers.as_slice())?;
+        let pools = pools_of(alloc, &ram, symbols, tasks, config.pools.as_slice())?;
         Ok(Board {
-            kernel: started(alloc, setups.as_slice(), lines.as_slice(), config)?,
+            kernel: started(
+                alloc,
+                setups.as_slice(),
+                lines.as_slice(),
+                pools.as_slice(),
+                config,
+            )?,
             ram,
             links: Links::new(),
             faults: no_faults(alloc)?,
@@ -509,6 +518,8 @@ fn words_config(alloc: Global) -> Result<Config, NoMemory>
         queues: List::new(alloc),
         spin_locks: List::new(alloc),
         mutexes: List::new(alloc),
+        pools: List::new(alloc),
+        mailboxes: List::new(alloc),
         handlers: List::new(alloc),
     })
 }
@@ -519,11 +530,12 @@ fn started(
     alloc: Global,
     setups: &[TaskSetup],
     lines: &[LineSetup],
+    pools: &[PoolSetup],
     config: &Config,
 ) -> Result<Kernel, NoMemory>
     requires few { config.now.processors ≤ 8 }
     requires setups { All IsSetup setups.now }
-    ensures { IfOk result (λ kernel. kernel ≡ booted_kernel setups.now lines.now (view config.now)) }
+    ensures { IfOk result (λ kernel. kernel ≡ booted_kernel setups.now lines.now pools.now (view config.now)) }
 {
     let mut kernel = Kernel::new(
         alloc,
@@ -536,6 +548,8 @@ fn started(
         config.queues.as_slice(),
         config.spin_locks.as_slice(),
         config.mutexes.as_slice(),
+        pools,
+        config.mailboxes.as_slice(),
     )?;
     start_all(&mut kernel, config.tasks.as_slice());
     let _ = kernel.dispatch();

@@ -49,10 +49,10 @@ pub fn a_change_of_task_ends_the_link()
 {}
 
 /// After every list of events from a boot each task that waits for a semaphore, for bits of an event flag, for a mutex,
-/// or to send to or receive from a data queue stands once, with its priority, in the waiting list for just that, and in
-/// no other waiting list of an object; if that list is in the order of priority, no task stands in front of one with a
-/// higher priority; no task waits for something that it could have at once; only a task that waits has a due tick, and
-/// a delay has one. No event ends this.
+/// for a block of a memory pool, for a message of a mailbox, or to send to or receive from a data queue stands once,
+/// with its priority, in the waiting list for just that, and in no other waiting list of an object; if that list is in
+/// the order of priority, no task stands in front of one with a higher priority; no task waits for something that it
+/// could have at once; only a task that waits has a due tick, and a delay has one. No event ends this.
 pub fn who_waits_stands_in_its_list()
     ensures boot { (image : ImageOf) (config : Configuration) (board : BoardState) (events : List EventOf) →
         boot image config ≡ Ok board → WaitsAreKept (after board events).kernel }
@@ -64,8 +64,8 @@ pub fn who_waits_stands_in_its_list()
 /// that is queued; none for a semaphore whose count isn't 0; none for a mutex that nobody has; none for bits of an
 /// event flag while the pattern satisfies the wait (TWF_ANDW: all of them are set; TWF_ORW: any of them), nor for an
 /// empty set of bits; none to send to a data queue that has room; none to receive from one that stores a datum, or to
-/// which another task waits to send one. And if waiters stand in the order of priority, none stands in front of one
-/// with a higher priority.
+/// which another task waits to send one; none for a memory pool of which a block is there; none for a mailbox in which a
+/// message is. And if waiters stand in the order of priority, none stands in front of one with a higher priority.
 ///
 /// This is the part `each` of `WaitsAreKept`, and speaks of the waiting lists; that each task that waits for an object
 /// stands in its list is said by `who_waits_stands_in_its_list`.

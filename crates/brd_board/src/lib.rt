@@ -12,6 +12,7 @@ pub mod laws;
 mod lease;
 mod links;
 mod load;
+mod pools;
 mod setup;
 mod snapshot;
 mod view;

@@ -40,7 +40,7 @@ pub struct Placed {
 }
 
 /// A number as it stands, or the value of the symbol that is named.
-fn value_of(symbols: &[Symbol], operand: &Operand) -> Result<u32, BootFault>
+pub fn value_of(symbols: &[Symbol], operand: &Operand) -> Result<u32, BootFault>
     ensures { result ≡ setup.value_of symbols.now operand.now }
 {
     match operand {
@@ -59,7 +59,7 @@ fn is_code_address(ram: &Ram, address: u32) -> bool
 }
 
 /// A size, up to the next multiple of 16.
-fn rounded_up(size: u32) -> usize
+pub fn rounded_up(size: u32) -> usize
     ensures { result ≡ setup.rounded_up size }
 {
     let high = size as usize + 15;

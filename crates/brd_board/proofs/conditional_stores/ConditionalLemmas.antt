@@ -359,7 +359,7 @@ word-from b events cpu address word reserved untouched =
 
 pub boot-conditional : (image : Image) (config : Configuration) (board : BoardState) (events : List Event) → boot image config ≡ Ok board →
     ConditionalLaw board events
-boot-conditional image config board events is = conditional-from board events (boot-begins (λ b. b.links ≡ []) image config board (λ s l m good. refl) is)
+boot-conditional image config board events is = conditional-from board events (boot-begins (λ b. b.links ≡ []) image config board (λ s l p m good. refl) is)
 
 pub boot-word : (image : Image) (config : Configuration) (board : BoardState) (events : List Event) → boot image config ≡ Ok board →
     WordLaw board events

@@ -37,6 +37,8 @@ kernel = record {
   flags = [];
   queues = [];
   mutexes = [];
+  pools = [];
+  mailboxes = [];
   spin_locks = [];
   processors = None ∷ Some (record idle { running = Some 1 }) ∷ Some (record idle { running = Some 2 }) ∷ [];
   handler_contexts = [];
