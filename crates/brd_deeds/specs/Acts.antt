@@ -1,4 +1,4 @@
--- What orders tasks and handlers, row by row of the table of docs/TRACE.md: what is released into, and who acquires
+-- What orders tasks and handlers, row by row of the table of docs/RACES.md: what is released into, and who acquires
 -- from it. A strand is who acts: a task, which keeps its strand wherever it runs and however often it starts, or the
 -- handler of an interrupt line. Which call does which of these, `Calls.antt` says.
 use Rattle.std.specs.Prelude.{◌/◌, ◌%◌, ◌^◌, ◌==◌, ℕ, zero, suc, Bool, true, false, if◌then◌else◌, [], ◌∷◌, bit_and}
@@ -6,7 +6,7 @@ use Rattle.std.specs.Prelude.{Option, None, Some}
 use Rattle.brd_tasks.specs.declared.task.TaskView.{TaskView}
 use Rattle.brd_board.specs.Board.{BoardState, task_of}
 use Rattle.brd_order.specs.declared.deed.Touch.{Touch}
-use Rattle.brd_deeds.specs.declared.thing.ThingKind.{ThingKind}
+use Rattle.brd_deeds.specs.declared.thing.{ThingKind.ThingKind, Thing.Thing}
 use Rattle.brd_deeds.specs.declared.thing.ThingKind.TheVariants as thing
 use Rattle.brd_deeds.specs.declared.past.{Stamp.Stamp}
 use Rattle.brd_deeds.specs.declared.log.{Doer.Doer, Log.Log}
@@ -41,6 +41,32 @@ gives_mutex_back doer id = releases_into doer thing.Mutex id
 -- who takes it, at once or when its wait ends
 abbrev pub takes_mutex : Doer → ℕ → Log → Log
 takes_mutex doer id = acquires_from doer thing.Mutex id
+
+-- A block of a memory pool, by its address.
+
+abbrev pub block_of : ℕ → ℕ → Thing
+block_of pool address = part_of thing.Block address (pool % 65536)
+
+-- rel_mpf
+abbrev pub gives_block_back : Doer → ℕ → ℕ → Log → Log
+gives_block_back doer pool address = notes doer.stamp (releases doer.strand (block_of pool address) ∷ [])
+
+-- who gets it, at once or when its wait ends; its address is the call's second result
+abbrev pub gets_block : Doer → ℕ → ℕ → Log → Log
+gets_block doer pool address = notes doer.stamp (acquires doer.strand (block_of pool address) ∷ [])
+
+-- A message of a mailbox, by its address.
+
+abbrev pub message_in : ℕ → ℕ → Thing
+message_in mailbox address = part_of thing.Message address (mailbox % 65536)
+
+-- snd_mbx, isnd_mbx
+abbrev pub sends_message : Doer → ℕ → ℕ → Log → Log
+sends_message doer mailbox address = notes doer.stamp (releases doer.strand (message_in mailbox address) ∷ [])
+
+-- who receives it, at once or when its wait ends; its address is the call's second result
+abbrev pub receives_message : Doer → ℕ → ℕ → Log → Log
+receives_message doer mailbox address = notes doer.stamp (acquires doer.strand (message_in mailbox address) ∷ [])
 
 -- A bit of an event flag.
 

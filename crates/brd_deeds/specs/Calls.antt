@@ -15,7 +15,8 @@ use Rattle.brd_deeds.specs.Past.{free, with_hold}
 use Rattle.brd_deeds.specs.Trails.{settled}
 use Rattle.brd_deeds.specs.Places.{sends, forces, receives, begins_to_wait, sends_at_last, receives_at_last}
 use Rattle.brd_deeds.specs.Acts.{gives_unit, gets_unit, sets_bits, gets_bits, locks_by_spin_lock, gives_spin_lock_back}
-use Rattle.brd_deeds.specs.Acts.{takes_mutex, gives_mutex_back}
+use Rattle.brd_deeds.specs.Acts.{takes_mutex, gives_mutex_back, gets_block, gives_block_back}
+use Rattle.brd_deeds.specs.Acts.{sends_message, receives_message}
 use Rattle.brd_deeds.specs.Acts.{locks_cpu, unlocks_cpu, releases_cpu, disables_dispatching, enables_dispatching}
 use Rattle.brd_deeds.specs.Acts.{asks_to_start, starts, takes_starts_back, wakes_up, takes_wake_up, lets_go_on, goes_on}
 use Rattle.brd_deeds.specs.Acts.{resumes, halts}
@@ -39,6 +40,10 @@ acts_done doer (call.SigSem id) second after log = gives_unit doer id log
 acts_done doer (call.TwaiSem id timeout) second after log = gets_unit doer id log
 acts_done doer (call.TlocMtx id timeout) second after log = takes_mutex doer id log
 acts_done doer (call.UnlMtx id) second after log = gives_mutex_back doer id log
+acts_done doer (call.TgetMpf id timeout) second after log = gets_block doer id second log
+acts_done doer (call.RelMpf id block) second after log = gives_block_back doer id block log
+acts_done doer (call.SndMbx id message priority) second after log = sends_message doer id message log
+acts_done doer (call.TrcvMbx id timeout) second after log = receives_message doer id second log
 acts_done doer (call.SetFlg id bits) second after log = sets_bits doer id bits log
 acts_done doer (call.TwaiFlg id bits mode timeout) second after log = gets_bits doer id bits second log
 acts_done doer (call.TsndDtq id datum timeout) second after log = sends doer id log
@@ -87,12 +92,16 @@ acts_done doer (call.RefSem id word) second after log = log
 acts_done doer (call.RefFlg id word) second after log = log
 acts_done doer (call.RefDtq id word) second after log = log
 acts_done doer (call.RefMtx id word) second after log = log
+acts_done doer (call.RefMpf id word) second after log = log
+acts_done doer (call.RefMbx id word) second after log = log
 
 -- The wait of a task ended with what it waited for: it was answered with E_OK and this second result, by a call of
 -- `caller`.
 abbrev pub acts_taken : Option ℕ → Doer → Call → ℕ → Log → Log
 acts_taken caller doer (call.TwaiSem id timeout) second log = gets_unit doer id log
 acts_taken caller doer (call.TlocMtx id timeout) second log = takes_mutex doer id log
+acts_taken caller doer (call.TgetMpf id timeout) second log = gets_block doer id second log
+acts_taken caller doer (call.TrcvMbx id timeout) second log = receives_message doer id second log
 acts_taken caller doer (call.TwaiFlg id bits mode timeout) second log = gets_bits doer id bits second log
 acts_taken caller doer (call.TsndDtq id datum timeout) second log = sends_at_last caller doer id log
 acts_taken caller doer (call.TrcvDtq id timeout) second log = receives_at_last caller doer id log
@@ -143,6 +152,10 @@ acts_taken caller doer (call.RefFlg id word) second log = log
 acts_taken caller doer (call.RefDtq id word) second log = log
 acts_taken caller doer (call.UnlMtx id) second log = log
 acts_taken caller doer (call.RefMtx id word) second log = log
+acts_taken caller doer (call.RelMpf id block) second log = log
+acts_taken caller doer (call.SndMbx id message priority) second log = log
+acts_taken caller doer (call.RefMpf id word) second log = log
+acts_taken caller doer (call.RefMbx id word) second log = log
 
 -- a call's caller waits
 abbrev pub acts_waiting : Doer → Call → Log → Log

@@ -4,7 +4,7 @@ use Rattle.std.specs.Prelude.{◌+◌, ◌*◌, ℕ}
 use Rattle.brd_deeds.specs.declared.thing.{ThingKind.ThingKind, Thing.Thing}
 use Rattle.brd_deeds.specs.declared.thing.ThingKind.TheVariants.{Semaphore, FlagBit, Datum, Room, Meeting, SpinLock}
 use Rattle.brd_deeds.specs.declared.thing.ThingKind.TheVariants.{Processor, Dispatching, Start, WakeUp, Going, Halt}
-use Rattle.brd_deeds.specs.declared.thing.ThingKind.TheVariants.{Word, Mutex}
+use Rattle.brd_deeds.specs.declared.thing.ThingKind.TheVariants.{Word, Mutex, Block, Message}
 
 abbrev pub rank_of : ThingKind → ℕ
 rank_of Semaphore = 0
@@ -21,11 +21,14 @@ rank_of Going = 10
 rank_of Halt = 11
 rank_of Word = 12
 rank_of Mutex = 13
+rank_of Block = 14
+rank_of Message = 15
 
 abbrev pub number_of : Thing → ℕ
 number_of it = (rank_of it.kind * 65536 + it.part) * 4294967296 + it.id
 
--- a thing that has no parts, and a part of one: a bit of a flag, a place of a data queue
+-- a thing that has no parts, and a part of one: a bit of a flag, a place of a data queue; of a block or a message the
+-- part is its pool or its mailbox
 
 abbrev pub whole : ThingKind → ℕ → Thing
 whole kind id = record { kind = kind; id = id; part = 0 }

@@ -6,14 +6,17 @@ ghost use Rattle.brd_deeds.specs.Acts.{
   acquires_from,
   asks_to_start,
   begins_to_load,
+  block_of,
   comes_to_meet,
   disables_dispatching,
   enables_dispatching,
   frees_spin_lock,
   gets_bit,
   gets_bits,
+  gets_block,
   gets_datum,
   gets_unit,
+  gives_block_back,
   gives_mutex_back,
   gives_spin_lock_back,
   gives_unit,
@@ -28,11 +31,14 @@ ghost use Rattle.brd_deeds.specs.Acts.{
   locks_by_spin_lock,
   locks_cpu,
   meets_other,
+  message_in,
+  receives_message,
   releases_cpu,
   releases_dispatching,
   releases_into,
   resumes,
   sends_datum,
+  sends_message,
   sets_bit,
   sets_bits,
   starts,
@@ -62,6 +68,20 @@ fn has_bit(pattern: u32, bit: u16) -> bool
     ensures { result ≡ has_bit pattern bit }
 {
     (pattern >> bit) % 2 == 1
+}
+
+/// A block of a memory pool.
+fn block_of(pool: u32, address: u32) -> Thing
+    ensures { result ≡ block_of pool address }
+{
+    Thing::part(ThingKind::Block, address, (pool % 65_536) as u16)
+}
+
+/// A message of a mailbox.
+fn message_in(mailbox: u32, address: u32) -> Thing
+    ensures { result ≡ message_in mailbox address }
+{
+    Thing::part(ThingKind::Message, address, (mailbox % 65_536) as u16)
 }
 
 /// Whether a task has no start queued: one that was asked for has taken place.
@@ -121,6 +141,53 @@ impl Log {
         ensures { OnOk result (self.new ≡ takes_mutex doer id self.old) }
     {
         self.acquire(doer, ThingKind::Mutex, id)
+    }
+
+    /// A block of a memory pool is given back.
+    pub(crate) fn give_block_back(
+        &mut self,
+        doer: Doer,
+        pool: u32,
+        address: u32,
+    ) -> Result<(), NoMemory>
+        ensures { OnOk result (self.new ≡ gives_block_back doer pool address self.old) }
+    {
+        let thing = block_of(pool, address);
+        self.note(doer.stamp, &[Done::releases(doer.strand, thing)])
+    }
+
+    /// A block of a memory pool is taken.
+    pub(crate) fn get_block(&mut self, doer: Doer, pool: u32, address: u32) -> Result<(), NoMemory>
+        ensures { OnOk result (self.new ≡ gets_block doer pool address self.old) }
+    {
+        let thing = block_of(pool, address);
+        self.note(doer.stamp, &[Done::acquires(doer.strand, thing)])
+    }
+
+    /// A message is sent to a mailbox.
+    pub(crate) fn send_message(
+        &mut self,
+        doer: Doer,
+        mailbox: u32,
+        address: u32,
+    ) -> Result<(), NoMemory>
+        ensures { OnOk result (self.new ≡ sends_message doer mailbox address self.old) }
+    {
+        let thing = message_in(mailbox, address);
+        self.note(doer.stamp, &[Done::releases(doer.strand, thing)])
+    }
+
+    /// A message is received from a mailbox.
+    pub(crate) fn receive_message(
+        &mut self,
+        doer: Doer,
+        mailbox: u32,
+        address: u32,
+    ) -> Result<(), NoMemory>
+        ensures { OnOk result (self.new ≡ receives_message doer mailbox address self.old) }
+    {
+        let thing = message_in(mailbox, address);
+        self.note(doer.stamp, &[Done::acquires(doer.strand, thing)])
     }
 
     /// A bit of an event flag is set, if a pattern has it.

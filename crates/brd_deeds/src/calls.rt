@@ -77,6 +77,10 @@ impl Log {
             Call::TwaiSem(id, _) => self.get_unit(doer, id),
             Call::TlocMtx(id, _) => self.take_mutex(doer, id),
             Call::UnlMtx(id) => self.give_mutex_back(doer, id),
+            Call::TgetMpf(id, _) => self.get_block(doer, id, second),
+            Call::RelMpf(id, block) => self.give_block_back(doer, id, block),
+            Call::SndMbx(id, message, _) => self.send_message(doer, id, message),
+            Call::TrcvMbx(id, _) => self.receive_message(doer, id, second),
             Call::SetFlg(id, bits) => self.set_bits(doer, id, bits),
             Call::TwaiFlg(id, bits, _, _) => self.get_bits(doer, id, bits, second),
             Call::TsndDtq(id, _, _) => self.send(doer, id),
@@ -121,7 +125,9 @@ impl Log {
             | Call::RefSem(_, _)
             | Call::RefFlg(_, _)
             | Call::RefDtq(_, _)
-            | Call::RefMtx(_, _) => Ok(()),
+            | Call::RefMtx(_, _)
+            | Call::RefMpf(_, _)
+            | Call::RefMbx(_, _) => Ok(()),
         }
     }
 
@@ -154,6 +160,8 @@ impl Log {
         match call {
             Call::TwaiSem(id, _) => self.get_unit(doer, id),
             Call::TlocMtx(id, _) => self.take_mutex(doer, id),
+            Call::TgetMpf(id, _) => self.get_block(doer, id, second),
+            Call::TrcvMbx(id, _) => self.receive_message(doer, id, second),
             Call::TwaiFlg(id, bits, _, _) => self.get_bits(doer, id, bits, second),
             Call::TsndDtq(id, _, _) => self.send_at_last(caller, doer, id),
             Call::TrcvDtq(id, _) => self.receive_at_last(caller, doer, id),
@@ -203,7 +211,11 @@ impl Log {
             | Call::RefFlg(_, _)
             | Call::RefDtq(_, _)
             | Call::UnlMtx(_)
-            | Call::RefMtx(_, _) => Ok(()),
+            | Call::RefMtx(_, _)
+            | Call::RelMpf(_, _)
+            | Call::SndMbx(_, _, _)
+            | Call::RefMpf(_, _)
+            | Call::RefMbx(_, _) => Ok(()),
         }
     }
 

@@ -34,6 +34,10 @@ pub enum ThingKind {
     Word,
     /// A mutex.
     Mutex,
+    /// A block of a memory pool.
+    Block,
+    /// A message of a mailbox.
+    Message,
 }
 
 /// What orders tasks and handlers.
@@ -41,9 +45,9 @@ pub enum ThingKind {
 pub struct Thing {
     /// Its kind.
     pub kind: ThingKind,
-    /// Which of them: an ID, a strand, a processor's number, or a word's address.
+    /// Which of them: an ID, a strand, a processor's number, or the address of a word, a block or a message.
     pub id: u32,
-    /// Which part of it: a bit or a place, 0 where it has none.
+    /// Which part of it: a bit or a place; of a block or a message its pool or mailbox; 0 where it has none.
     pub part: u16,
 }
 
@@ -73,7 +77,7 @@ impl Thing {
 /// The place of a kind among all.
 fn rank_of(kind: ThingKind) -> u64
     ensures is { result ≡ rank_of kind }
-    ensures few { result ≤ 13 }
+    ensures few { result ≤ 15 }
 {
     match kind {
         ThingKind::Semaphore => 0,
@@ -90,5 +94,7 @@ fn rank_of(kind: ThingKind) -> u64
         ThingKind::Halt => 11,
         ThingKind::Word => 12,
         ThingKind::Mutex => 13,
+        ThingKind::Block => 14,
+        ThingKind::Message => 15,
     }
 }

@@ -29,6 +29,8 @@ use Rattle.brd_objects.specs.Flags.{joined, pattern_for, all_released, with_all_
 use Rattle.brd_objects.specs.DataQueues.{DataQueueState, outcome, forced, forced_outcome, received, receipt}
 use Rattle.brd_objects.specs.declared.mutex.Mutex.{Mutex}
 use Rattle.brd_objects.specs.Mutexes.{given, next_owner_in}
+use Rattle.brd_objects.specs.Pools.{PoolState, block_for, given_back, next_holder}
+use Rattle.brd_objects.specs.Mailboxes.{MailboxState, message_sent, message_outcome, next_message}
 use Rattle.brd_kernel.specs.declared.processor.Processor.{Processor}
 use Rattle.brd_kernel.specs.declared.processor.Spin.{Spin}
 use Rattle.brd_kernel.specs.declared.processor.Executor.{Executor}
@@ -43,12 +45,12 @@ use Rattle.brd_kernel.specs.Answer.{e_ok, code_of}
 use Rattle.brd_kernel.specs.Kernel.{KernelState, processor_at, with_tasks, with_processor, executor_by, executor_in, executor_on, context_of, with_context_of, context_on, deliverable, handles, line_at}
 use Rattle.brd_kernel.specs.Waits.{can_wait, with_wait, due_by, due_after, released_in, reason_of, unlisted, broken_off, answer_by, timed_out, all_timed_out, faulted_task, faulted_in, with_released, given_in, all_given_in, quits_in, prioritized}
 use Rattle.brd_kernel.specs.Row.{Served, served}
-use Rattle.brd_kernel.specs.Services.{named, act_tsk, can_act, ext_tsk, ter_tsk, chg_pri, get_pri, mact_tsk, mig_tsk, get_pid, rot_rdq, irot_rdq, get_tid, mark_dsp, mark_cpu, tslp_tsk, wup_tsk, can_wup, rel_wai, sus_tsk, rsm_tsk, dly_tsk, sig_sem, twai_sem, set_flg, clr_flg, twai_flg, tsnd_dtq, fsnd_dtq, trcv_dtq, put_chr, ext_ker, ret_int, loc_spn, try_spn, unl_spn, get_tim, set_tim, sns, mget_tid, mrot_rdq, ref_tsk, ref_sem, ref_flg, ref_dtq, tloc_mtx, unl_mtx, ref_mtx}
-use Rattle.brd_kernel.specs.Services.{is_asleep, want_of, or_waits, priority_or_initial, with_all_released_in, with_satisfied_of, handed_over, with_priority_in, flag_got, queue_sent, queue_received, unmarked_on, is_taken, lock_taken_by, lock_given_by, serve_by, prioritized_after, with_priorities, caller_on}
+use Rattle.brd_kernel.specs.Services.{named, act_tsk, can_act, ext_tsk, ter_tsk, chg_pri, get_pri, mact_tsk, mig_tsk, get_pid, rot_rdq, irot_rdq, get_tid, mark_dsp, mark_cpu, tslp_tsk, wup_tsk, can_wup, rel_wai, sus_tsk, rsm_tsk, dly_tsk, sig_sem, twai_sem, set_flg, clr_flg, twai_flg, tsnd_dtq, fsnd_dtq, trcv_dtq, put_chr, ext_ker, ret_int, loc_spn, try_spn, unl_spn, get_tim, set_tim, sns, mget_tid, mrot_rdq, ref_tsk, ref_sem, ref_flg, ref_dtq, tloc_mtx, unl_mtx, ref_mtx, tget_mpf, rel_mpf, snd_mbx, trcv_mbx, ref_mpf, ref_mbx}
+use Rattle.brd_kernel.specs.Services.{is_asleep, want_of, or_waits, priority_or_initial, with_all_released_in, with_satisfied_of, handed_over, with_priority_in, flag_got, queue_sent, queue_received, block_got, message_got, released_with_second, message_of, unmarked_on, is_taken, lock_taken_by, lock_given_by, serve_by, prioritized_after, with_priorities, caller_on}
 use Rattle.brd_kernel.proofs.ServedLemmas.{Wanted, LeavesBy, Leaves, Passes, leaves-row, leaves-if, leaves-or_refused}
 use Rattle.brd_kernel.proofs.PricedLemmas.{priced, priced_in}
 use Rattle.brd_kernel.proofs.SettledLemmas.{Settles, all-given, all-prioritized}
-use Rattle.brd_kernel.proofs.WalkLemmas.{in_semaphore, in_flag, in_senders, in_receivers, in_mutex}
+use Rattle.brd_kernel.proofs.WalkLemmas.{in_semaphore, in_flag, in_senders, in_receivers, in_mutex, in_pool, in_mailbox}
 use Rattle.brd_kernel.proofs.WaitLemmas.{unlisted-only, reordered-only}
 use Rattle.brd_sysgate.specs.Gate.{read_of, written, caller_of, served_call, changed_in, with_changed_context, replied, is_again, called_in, called}
 use Rattle.brd_board.specs.Executing.{executed_by, executed_in}
@@ -257,6 +259,10 @@ quits-lives id at k was other = ended-lives id at (all_given_in k at).tasks (all
 all-prioritized-lives : (id : ℕ) (k : KernelState) → LivesIn id k → LivesIn id (prioritized k)
 all-prioritized-lives id k was = all-prioritized (LivesIn id) k (lives-settle id) was
 
+second-lives : (id : ℕ) (k : KernelState) (second : ℕ) (first : Option ℕ) → LivesIn id k → LivesIn id (released_with_second k second first)
+second-lives id k second None was = was
+second-lives id k second (Some at) was = released-lives id at e_ok k.tasks (Some second) was
+
 unmarked-lives : (id : ℕ) (k : KernelState) (cpu : ℕ) (found : Option Processor) → LivesIn id k → LivesIn id (unmarked_on k cpu found)
 unmarked-lives id k cpu None was = was
 unmarked-lives id k cpu (Some p) was = was
@@ -294,6 +300,16 @@ received-lives : (id : ℕ) (k : KernelState) (caller at timeout : ℕ) (it : Op
     Leaves (Living id) (queue_received k caller at timeout it)
 received-lives id k caller at timeout (Some it) was = released-if-lives id (record k { queues = object_changed received k.queues at }) it.sender was
 received-lives id k caller at timeout None was = or-waits-live id k caller (reason.On kind.Datum at) timeout (in_receivers k caller at) was
+
+block-lives : (id : ℕ) (k : KernelState) (caller at timeout : ℕ) (block : Option ℕ) → LivesIn id k →
+    Leaves (Living id) (block_got k caller at timeout block)
+block-lives id k caller at timeout (Some block) was = was
+block-lives id k caller at timeout None was = or-waits-live id k caller (reason.On kind.Block at) timeout (in_pool k caller at) was
+
+message-lives : (id : ℕ) (k : KernelState) (caller at timeout : ℕ) (message : Option ℕ) → LivesIn id k →
+    Leaves (Living id) (message_got k caller at timeout message)
+message-lives id k caller at timeout (Some message) was = was
+message-lives id k caller at timeout None was = or-waits-live id k caller (reason.On kind.Message at) timeout (in_mailbox k caller at) was
 
 -- a call that isn't the task's own ext_tsk, and no ter_tsk of it that is served
 record Spares (k : KernelState) (cpu caller : ℕ) (c : Call) (id : ℕ) : Type 0 where
@@ -419,6 +435,18 @@ serve-lives id k cpu caller (call.TlocMtx m timeout) spares was =
 serve-lives id k cpu caller (call.UnlMtx m) spares was =
     leaves-row (Living id) (unl_mtx k caller m) (λ (it : Mutex) passes. given-lives-in id k m was)
 serve-lives id k cpu caller (call.RefMtx m word) spares was = leaves-row (Living id) (ref_mtx k m word) (λ (it : Mutex) passes. was)
+serve-lives id k cpu caller (call.TgetMpf p timeout) spares was =
+    leaves-row (Living id) (tget_mpf k caller p timeout) (λ (it : PoolState) passes. block-lives id k caller p timeout (block_for it) was)
+serve-lives id k cpu caller (call.RelMpf p block) spares was =
+    leaves-row (Living id) (rel_mpf k p block) (λ (it : PoolState) passes.
+    second-lives id (record k { pools = object_changed (given_back block) k.pools p }) block (next_holder block it) was)
+serve-lives id k cpu caller (call.SndMbx b address priority) spares was =
+    leaves-row (Living id) (snd_mbx k b address priority) (λ (it : MailboxState) passes.
+    handed-lives id (record k { mailboxes = object_changed (message_sent (message_of address priority)) k.mailboxes b }) address (message_outcome it) was)
+serve-lives id k cpu caller (call.TrcvMbx b timeout) spares was =
+    leaves-row (Living id) (trcv_mbx k caller b timeout) (λ (it : MailboxState) passes. message-lives id k caller b timeout (next_message it) was)
+serve-lives id k cpu caller (call.RefMpf p word) spares was = leaves-row (Living id) (ref_mpf k p word) (λ (it : PoolState) passes. was)
+serve-lives id k cpu caller (call.RefMbx b word) spares was = leaves-row (Living id) (ref_mbx k b word) (λ (it : MailboxState) passes. was)
 
 -- Then tasks are given the priorities that they are to have.
 

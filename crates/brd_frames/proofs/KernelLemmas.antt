@@ -35,6 +35,8 @@ of-with f g change k kind.Flag = refl
 of-with f g change k kind.Room = refl
 of-with f g change k kind.Datum = refl
 of-with f g change k kind.Mutex = refl
+of-with f g change k kind.Block = refl
+of-with f g change k kind.Message = refl
 
 pub changed_for-with : (f g : Contexts) (change : Change) (k : KernelState) (why : Option WaitReason) →
     changed_for change (k-with f g k) why ≡ k-with f g (changed_for change k why)
@@ -91,6 +93,8 @@ inheritor-of-with f g k kind.Flag object = refl
 inheritor-of-with f g k kind.Room object = refl
 inheritor-of-with f g k kind.Datum object = refl
 inheritor-of-with f g k kind.Mutex object = refl
+inheritor-of-with f g k kind.Block object = refl
+inheritor-of-with f g k kind.Message object = refl
 
 inheritor-with : (f g : Contexts) (k : KernelState) (why : Option WaitReason) → inheritor_for (k-with f g k) why ≡ inheritor_for k why
 inheritor-with f g k None = refl

@@ -29,7 +29,7 @@ use Rattle.brd_frames.specs.Apart.{is_steady, Calls, starts, Starts, Executes, I
 use Rattle.brd_frames.specs.Touching.{is_among, accesses_next, touches, stores, stores_next, Agree, executing, touched_in, stored_in, is_touched, is_stored, Change, changed, with_change, LeavesAlone, IsClearOf, put_at}
 use Rattle.brd_frames.specs.Going.{Gone, goes, with_gone}
 use Rattle.brd_frames.specs.Commuting.{agent_goes, IsIndependent}
-use Rattle.brd_frames.specs.Lagging.{Sharing, Keeps, IsInvisible, Lags, Path, is_same_agent, without}
+use Rattle.brd_frames.specs.Lagging.{Sharing, Keeps, StaysUnseen, IsInvisible, Lags, Path, is_same_agent, without}
 use Rattle.brd_frames.proofs.DeedLemmas.{next-same}
 use Rattle.brd_frames.proofs.FootprintLemmas.{PutsAt, with-bytes-is, put-change, put-clear, put-keeps, put-length, stores-touches, Outside}
 use Rattle.brd_frames.proofs.CallLemmas.{starts-with}
@@ -146,6 +146,18 @@ sees-keeps by one two who sees keeps = record {
   alone = λ address is own. keeps.alone address (sym (sees-touches one two who address sees) ∙ is) own;
 }
 
+same-pc : (gone other : Gone) → Some gone ≡ Some other → gone.context.pc ≡ other.context.pc
+same-pc gone other is = let same : gone ≡ other = cc in ap (λ (x : Gone). x.context.pc) same
+
+unseen-there : (by : Sharing) (one two : BoardState) (who : Agent) (new : BoardState) → Sees one two who → IsInvisible by one who new →
+    StaysUnseen by two who
+unseen-there by one two who new sees it gone is =
+    let led = leads one who new it.goes in
+    let there : Gone = record led.gone { memory = with_bytes two.memory (led.put.first - base) led.put.bytes } in
+    let same : goes (context_in two.kernel who) two.memory ≡ Some there =
+    ap (λ s. goes s two.memory) sees.context ∙ led.put.again two.memory sees.agree in
+    subst (λ pc. by.seen pc ≡ false) (same-pc there gone (sym same ∙ is)) (it.unseen led.gone led.means)
+
 -- an invisible instruction is so where it sees the same, and leads to this board
 pub sees-invisible : (by : Sharing) (one two : BoardState) (who : Agent) (new other : BoardState) → Sees one two who → IsInvisible by one who new →
     agent_goes two who ≡ Some other → IsInvisible by two who other
@@ -154,6 +166,7 @@ sees-invisible by one two who new other sees it goes = record {
   apart = λ address is. it.apart address (sym (sees-touches one two who address sees) ∙ is);
   keeps = sees-keeps by one two who sees it.keeps;
   lasting = it.lasting;
+  unseen = unseen-there by one two who new sees it;
 }
 
 pub sees-goes : (one two : BoardState) (who : Agent) (new : BoardState) (it : Leads one who new) → Sees one two who →

@@ -26,6 +26,8 @@ use Rattle.brd_objects.specs.Flags.{joined, all_released, with_all_released}
 use Rattle.brd_objects.specs.DataQueues.{DataQueueState, sent, outcome, forced, forced_outcome, received}
 use Rattle.brd_objects.specs.declared.mutex.Mutex.{Mutex}
 use Rattle.brd_objects.specs.Mutexes.{given, next_owner_in}
+use Rattle.brd_objects.specs.Pools.{PoolState, given_back, next_holder}
+use Rattle.brd_objects.specs.Mailboxes.{MailboxState, message_sent, message_outcome}
 use Rattle.brd_kernel.specs.declared.processor.Processor.{Processor}
 use Rattle.brd_kernel.specs.declared.processor.Executor.{Executor}
 use Rattle.brd_kernel.specs.declared.processor.Executor.TheVariants as executor
@@ -33,7 +35,7 @@ use Rattle.brd_kernel.specs.declared.call.Call.{Call}
 use Rattle.brd_kernel.specs.Answer.{e_ok}
 use Rattle.brd_kernel.specs.Kernel.{KernelState, processor_at, with_tasks, executor_on, context_of, with_context_of, deliverable, handles, entry_of, line_at}
 use Rattle.brd_kernel.specs.Waits.{can_wait, with_wait, released_in, reason_of, unlisted, broken_off, ended_in, answer_by, timed_out, all_timed_out, ticked_on, faulted_task, faulted_in, Change, changed_of, changed_for, leaving, moving, with_released, given_in, all_given_in, quits_in, prioritized}
-use Rattle.brd_kernel.specs.Services.{unmarked_on, with_all_released_in, with_satisfied_of, handed_over, caller_on}
+use Rattle.brd_kernel.specs.Services.{unmarked_on, with_all_released_in, with_satisfied_of, handed_over, released_with_second, message_of, caller_on}
 use Rattle.brd_kernel.proofs.PricedLemmas.{priced, priced_in}
 use Rattle.brd_kernel.proofs.SettledLemmas.{Settles, all-given, all-prioritized}
 use Rattle.brd_kernel.proofs.WalkLemmas.{Lacks, No-one, lacked, awaiting, Fact, Law, serve-leaves}
@@ -208,6 +210,10 @@ handed-rooms k datum (Handed id) = released-rooms k id e_ok (Some datum)
 handed-rooms k datum Stored = rooms-same k
 handed-rooms k datum Full = rooms-same k
 
+second-rooms : (k : KernelState) (second : ℕ) (first : Option ℕ) → Rooms (released_with_second k second first) k
+second-rooms k second None = rooms-same k
+second-rooms k second (Some id) = released-rooms k id e_ok (Some second)
+
 awaiting-rooms : (k : KernelState) (caller id : ℕ) (lacks : Lacks k id) → Rooms (awaiting k caller id lacks) k
 awaiting-rooms k caller id (No-one s there none) = record { tasks = refl; handlers = refl }
 awaiting-rooms k caller id _ = record { tasks = refl; handlers = refl }
@@ -255,6 +261,13 @@ rooms-law Known k cpu caller = record {
       via (released-if-rooms (record k { queues = object_changed received k.queues id }) it.sender) refl refl;
   locks = λ id m there. record { tasks = refl; handlers = refl };
   gives = λ id m there. given-rooms k id;
+  hands-out = λ id p block there is. record { tasks = refl; handlers = refl };
+  gives-back = λ id block (p : PoolState) there.
+      via (second-rooms (record k { pools = object_changed (given_back block) k.pools id }) block (next_holder block p)) refl refl;
+  posts = λ id address priority (m : MailboxState) there.
+      via (handed-rooms (record k { mailboxes = object_changed (message_sent (message_of address priority)) k.mailboxes id }) address (message_outcome m))
+      refl refl;
+  fetches = λ id m address there is. record { tasks = refl; handlers = refl };
   awaits = λ id due lacks may.
       wait-rooms k caller (reason.On (lacked lacks) id) due (awaiting k caller id lacks) (awaiting-rooms k caller id lacks);
   writes = λ word. record { tasks = refl; handlers = refl };

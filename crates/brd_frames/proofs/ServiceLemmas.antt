@@ -22,6 +22,8 @@ use Rattle.brd_objects.specs.Semaphores.{returned, first_waiter, has_one}
 use Rattle.brd_objects.specs.Flags.{joined, pattern_for, all_released, with_all_released}
 use Rattle.brd_objects.specs.DataQueues.{DataQueueState, sent, outcome, forced, forced_outcome, received, receipt}
 use Rattle.brd_objects.specs.declared.mutex.Mutex.{Mutex}
+use Rattle.brd_objects.specs.Pools.{PoolState, block_for, given_back, next_holder}
+use Rattle.brd_objects.specs.Mailboxes.{MailboxState, message_sent, message_outcome, next_message}
 use Rattle.brd_kernel.specs.declared.processor.Processor.{Processor}
 use Rattle.brd_kernel.specs.declared.processor.Spin.{Spin}
 use Rattle.brd_kernel.specs.declared.processor.Executor.{Executor}
@@ -36,12 +38,12 @@ use Rattle.brd_kernel.specs.Answer.{e_ok, code_of}
 use Rattle.brd_kernel.specs.Kernel.{KernelState, processor_at, with_tasks, with_processor, holding, letting_go, executor_in, executor_on}
 use Rattle.brd_kernel.specs.Waits.{due_after, due_by, can_wait, with_wait, released_in, reordered_in, with_released, has_mutex_in, quits_in, prioritized}
 use Rattle.brd_kernel.specs.Row.{Row, Served, refused, served_object, served, ok, silent}
-use Rattle.brd_kernel.specs.Services.{named, act_tsk, can_act, ext_tsk, ter_tsk, chg_pri, get_pri, mact_tsk, mig_tsk, get_pid, rot_rdq, irot_rdq, get_tid, mark_dsp, mark_cpu, tslp_tsk, wup_tsk, can_wup, rel_wai, sus_tsk, rsm_tsk, dly_tsk, sig_sem, twai_sem, set_flg, clr_flg, twai_flg, tsnd_dtq, fsnd_dtq, trcv_dtq, put_chr, ext_ker, ret_int, loc_spn, try_spn, unl_spn, get_tim, set_tim, sns, mget_tid, mrot_rdq, ref_tsk, ref_sem, ref_flg, ref_dtq, tloc_mtx, unl_mtx, ref_mtx}
-use Rattle.brd_kernel.specs.Services.{bit_word, sensed, system_time, id_or_none, task_words, semaphore_words, flag_words, queue_words, mutex_words}
+use Rattle.brd_kernel.specs.Services.{named, act_tsk, can_act, ext_tsk, ter_tsk, chg_pri, get_pri, mact_tsk, mig_tsk, get_pid, rot_rdq, irot_rdq, get_tid, mark_dsp, mark_cpu, tslp_tsk, wup_tsk, can_wup, rel_wai, sus_tsk, rsm_tsk, dly_tsk, sig_sem, twai_sem, set_flg, clr_flg, twai_flg, tsnd_dtq, fsnd_dtq, trcv_dtq, put_chr, ext_ker, ret_int, loc_spn, try_spn, unl_spn, get_tim, set_tim, sns, mget_tid, mrot_rdq, ref_tsk, ref_sem, ref_flg, ref_dtq, tloc_mtx, unl_mtx, ref_mtx, tget_mpf, rel_mpf, snd_mbx, trcv_mbx, ref_mpf, ref_mbx}
+use Rattle.brd_kernel.specs.Services.{bit_word, sensed, system_time, id_or_none, task_words, semaphore_words, flag_words, queue_words, mutex_words, pool_words, mailbox_words}
 use Rattle.brd_kernel.specs.Services.{is_over_mutex, is_over_below, is_over_of, is_over_for, is_over_ceiling, may_not_have, prioritized_after, with_priorities}
-use Rattle.brd_kernel.specs.Services.{is_held_elsewhere, is_no_processor, is_asleep, want_of, or_waits, priority_or_initial, with_all_released_in, with_satisfied_of, handed_over, with_priority_in, flag_got, queue_sent, queue_received, unmarked_on, is_taken, lock_taken_by, lock_given_by, serve_by}
-use Rattle.brd_kernel.proofs.SameLemmas.{Same, same-quits, same-given, same-prioritized, same-broken, same-reordered, same-satisfied, same-released, same-handed}
-use Rattle.brd_kernel.proofs.WalkLemmas.{in_semaphore, in_flag, in_senders, in_receivers, in_mutex}
+use Rattle.brd_kernel.specs.Services.{is_held_elsewhere, is_no_processor, is_asleep, want_of, or_waits, priority_or_initial, with_all_released_in, with_satisfied_of, handed_over, with_priority_in, flag_got, queue_sent, queue_received, block_got, message_got, released_with_second, message_of, unmarked_on, is_taken, lock_taken_by, lock_given_by, serve_by}
+use Rattle.brd_kernel.proofs.SameLemmas.{Same, same-quits, same-given, same-prioritized, same-broken, same-reordered, same-satisfied, same-released, same-handed, same-second}
+use Rattle.brd_kernel.proofs.WalkLemmas.{in_semaphore, in_flag, in_senders, in_receivers, in_mutex, in_pool, in_mailbox}
 use Rattle.brd_frames.specs.Apart.{starts}
 use Rattle.brd_frames.proofs.TableLemmas.{Contexts, t-with, At, Unsteady, Restarted, through-with, changed-with, noted-with, activated-with, released-free}
 use Rattle.brd_frames.proofs.KernelLemmas.{k-with, set-same-some, changed_for-with, released_in-with, broken-with, released-if-with, given_in-with, quits_in-with, priorities-given-with}
@@ -192,6 +194,11 @@ handed-with f g k datum (Handed id) free = released_in-with f g k id e_ok (Some 
 handed-with f g k datum Stored free = refl
 handed-with f g k datum Full free = refl
 
+second-with : (f g : Contexts) (k : KernelState) (second : ℕ) (first : Option ℕ) → Unsteady f k.tasks →
+    released_with_second (k-with f g k) second first ≡ k-with f g (released_with_second k second first)
+second-with f g k second None free = refl
+second-with f g k second (Some id) free = released_in-with f g k id e_ok (Some second) free
+
 prioritized-with : (f g : Contexts) (k : KernelState) (id priority : ℕ) (why : Option WaitReason) →
     with_priority_in (k-with f g k) id priority why ≡ k-with f g (with_priority_in k id priority why)
 prioritized-with f g k id priority why =
@@ -257,6 +264,16 @@ was-received f g k cpu caller id timeout (Some it) free =
     answers _ _ e_ok (Some it.datum) (released-if-with f g new it.sender free) (executor-same cpu (same-released new it.sender))
 was-received f g k cpu caller id timeout None free = or-waits f g k cpu caller (reason.On kind.Datum id) timeout (in_receivers k caller id)
 
+was-handed-out : (f g : Contexts) (k : KernelState) (cpu caller id timeout : ℕ) (block : Option ℕ) →
+    Alike f g k cpu (block_got k caller id timeout block) (block_got (k-with f g k) caller id timeout block)
+was-handed-out f g k cpu caller id timeout (Some block) = answers _ _ e_ok (Some block) refl refl
+was-handed-out f g k cpu caller id timeout None = or-waits f g k cpu caller (reason.On kind.Block id) timeout (in_pool k caller id)
+
+was-fetched : (f g : Contexts) (k : KernelState) (cpu caller id timeout : ℕ) (message : Option ℕ) →
+    Alike f g k cpu (message_got k caller id timeout message) (message_got (k-with f g k) caller id timeout message)
+was-fetched f g k cpu caller id timeout (Some message) = answers _ _ e_ok (Some message) refl refl
+was-fetched f g k cpu caller id timeout None = or-waits f g k cpu caller (reason.On kind.Message id) timeout (in_mailbox k caller id)
+
 -- Ceilings.
 
 over-below-with : (f g : Contexts) (k : KernelState) (id priority n : ℕ) → is_over_below (k-with f g k) id priority n ≡ is_over_below k id priority n
@@ -272,6 +289,8 @@ over-of-with f g k priority kind.Flag object = refl
 over-of-with f g k priority kind.Room object = refl
 over-of-with f g k priority kind.Datum object = refl
 over-of-with f g k priority kind.Mutex object = refl
+over-of-with f g k priority kind.Block object = refl
+over-of-with f g k priority kind.Message object = refl
 
 over-for-with : (f g : Contexts) (k : KernelState) (priority : ℕ) (why : Option WaitReason) →
     is_over_for (k-with f g k) priority why ≡ is_over_for k priority why
@@ -462,6 +481,24 @@ serve-alike f g k cpu caller (call.UnlMtx m) free =
     answers _ _ e_ok None (given_in-with f g k m free.unsteady) (executor-same cpu (same-given k m)))
 serve-alike f g k cpu caller (call.RefMtx m word) free =
     row (ref_mtx k m word) _ (λ (it : Mutex) passed. answers _ _ e_ok (Some (slice_index (mutex_words it) word)) refl refl)
+serve-alike f g k cpu caller (call.TgetMpf p timeout) free =
+    row (tget_mpf k caller p timeout) _ (λ (it : PoolState) passed. was-handed-out f g k cpu caller p timeout (block_for it))
+serve-alike f g k cpu caller (call.RelMpf p block) free =
+    row (rel_mpf k p block) _ (λ (it : PoolState) passed.
+    let new : KernelState = record k { pools = object_changed (given_back block) k.pools p } in
+    answers _ _ e_ok None (second-with f g new block (next_holder block it) free.unsteady)
+    (executor-same cpu (same-second new block (next_holder block it))))
+serve-alike f g k cpu caller (call.SndMbx b address priority) free =
+    row (snd_mbx k b address priority) _ (λ (it : MailboxState) passed.
+    let new : KernelState = record k { mailboxes = object_changed (message_sent (message_of address priority)) k.mailboxes b } in
+    answers _ _ e_ok None (handed-with f g new address (message_outcome it) free.unsteady)
+    (executor-same cpu (same-handed new address (message_outcome it))))
+serve-alike f g k cpu caller (call.TrcvMbx b timeout) free =
+    row (trcv_mbx k caller b timeout) _ (λ (it : MailboxState) passed. was-fetched f g k cpu caller b timeout (next_message it))
+serve-alike f g k cpu caller (call.RefMpf p word) free =
+    row (ref_mpf k p word) _ (λ (it : PoolState) passed. answers _ _ e_ok (Some (slice_index (pool_words it) word)) refl refl)
+serve-alike f g k cpu caller (call.RefMbx b word) free =
+    row (ref_mbx k b word) _ (λ (it : MailboxState) passed. answers _ _ e_ok (Some (slice_index (mailbox_words it) word)) refl refl)
 
 -- Then tasks are given the priorities that they are to have.
 

@@ -29,6 +29,8 @@ use Rattle.brd_objects.specs.Flags.{joined, all_released, with_all_released}
 use Rattle.brd_objects.specs.DataQueues.{DataQueueState, sent, outcome, forced, forced_outcome, received}
 use Rattle.brd_objects.specs.declared.mutex.Mutex.{Mutex}
 use Rattle.brd_objects.specs.Mutexes.{given, next_owner_in}
+use Rattle.brd_objects.specs.Pools.{PoolState, given_back, next_holder}
+use Rattle.brd_objects.specs.Mailboxes.{MailboxState, message_sent, message_outcome}
 use Rattle.brd_kernel.specs.declared.processor.Processor.{Processor}
 use Rattle.brd_kernel.specs.declared.processor.Executor.{Executor}
 use Rattle.brd_kernel.specs.declared.processor.Executor.TheVariants as executor
@@ -37,7 +39,7 @@ use Rattle.brd_kernel.specs.Answer.{e_ok}
 use Rattle.brd_kernel.specs.Kernel.{KernelState, processor_at, is_held, with_tasks, with_processor, unmarked, running_in, executor_by, executor_in, executor_on, context_of, with_context_of, deliverable, pending_from, accepts, handles, accepted_line, line_at, with_pending}
 use Rattle.brd_kernel.specs.Waits.{can_wait, with_wait, released_in, reason_of, unlisted, broken_off, answer_by, timed_out, all_timed_out, ticked_on, faulted_task, faulted_in, ended_by_fault, with_released, given_in, all_given_in, quits_in, prioritized}
 use Rattle.brd_kernel.specs.Dispatch.{dispatched_one, dispatched_from, dispatched}
-use Rattle.brd_kernel.specs.Services.{with_all_released_in, with_satisfied_of, handed_over, unmarked_on, handler_ended, serve_of, caller_on}
+use Rattle.brd_kernel.specs.Services.{with_all_released_in, with_satisfied_of, handed_over, released_with_second, message_of, unmarked_on, handler_ended, serve_of, caller_on}
 use Rattle.brd_kernel.proofs.WaitLemmas.{unlisted-only, reordered-only}
 use Rattle.brd_kernel.proofs.PricedLemmas.{priced, priced_in}
 use Rattle.brd_kernel.proofs.SettledLemmas.{Settles, all-given, all-prioritized}
@@ -207,6 +209,10 @@ handed-rests id k datum (Handed at) was = released-with-rests id at e_ok k.tasks
 handed-rests id k datum Stored was = was
 handed-rests id k datum Full was = was
 
+second-rests : (id : ℕ) (k : KernelState) (second : ℕ) (first : Option ℕ) → RestsIn id k → RestsIn id (released_with_second k second first)
+second-rests id k second None was = was
+second-rests id k second (Some at) was = released-with-rests id at e_ok k.tasks (Some second) was
+
 unmarked-rests : (id : ℕ) (k : KernelState) (cpu : ℕ) (found : Option Processor) → RestsIn id k → RestsIn id (unmarked_on k cpu found)
 unmarked-rests id k cpu None was = was
 unmarked-rests id k cpu (Some p) was = was
@@ -272,6 +278,12 @@ rests-law Known id k cpu caller apart was = record {
       released-if-rests id (record k { queues = object_changed received k.queues at }) it.sender was;
   locks = λ at m there. was;
   gives = λ at m there. given-rests id k at was;
+  hands-out = λ at p block there is. was;
+  gives-back = λ at block (p : PoolState) there.
+      second-rests id (record k { pools = object_changed (given_back block) k.pools at }) block (next_holder block p) was;
+  posts = λ at address priority (m : MailboxState) there.
+      handed-rests id (record k { mailboxes = object_changed (message_sent (message_of address priority)) k.mailboxes at }) address (message_outcome m) was;
+  fetches = λ at m address there is. was;
   awaits = λ at due lacks known. wait-rests id caller k (reason.On (lacked lacks) at) due (awaiting k caller at lacks) (apart known) was;
   writes = λ word. was;
   ends_all = was;

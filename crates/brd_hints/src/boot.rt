@@ -4,7 +4,7 @@ use crate::finding::{Finding, told};
 use crate::hint::FaultHint;
 use crate::values_of::line_of;
 use brd_base::BASE;
-use brd_config::{Config, Operand, Stack, TaskConfig};
+use brd_config::{Config, Operand, PoolConfig, Stack, TaskConfig};
 use brd_mem::{Image, Segment, Symbol};
 use std::alloc::Global;
 
@@ -54,6 +54,15 @@ fn fault_of<'a>(image: &Image, config: &'a Config, text: &[u8]) -> Option<Findin
                     .with_address(address)
                     .with_second(ram / 1_024),
             );
+        }
+    }
+    for pool in config.pools.as_slice() {
+        if let Some(found) = no_area_of(symbols, pool) {
+            let line = line_of(text, b"CRE_MPF", pool.id as u64);
+            return Some(found.with_number(pool.id as u64).with_second(line));
+        }
+        if let Some(found) = pool_fault(symbols, pool, ram, &mut stacks) {
+            return Some(found.with_number(pool.id as u64).with_second(ram / 1_024));
         }
     }
     None
@@ -157,4 +166,41 @@ fn task_fault<'a>(
     let stack = value_of(symbols, stack)?;
     let template = b"the stack of task ? at @ isn't in the RAM of & KiB from 0x80000000";
     is_outside(stack, size, ram).then_some(Finding::at(&[], template, &[]).with_address(stack))
+}
+
+/// The area of a memory pool, where it is a name that is no symbol.
+fn no_area_of<'a>(symbols: &[Symbol], pool: &'a PoolConfig) -> Option<Finding<'a>> {
+    let Stack::At(area) = &pool.area else {
+        return None;
+    };
+    if value_of(symbols, area).is_some() {
+        return None;
+    }
+    let template =
+        b"fixed memory pool ? (line &) lies at ~, which is no symbol of the object file (see nm)";
+    Some(Finding::at(&[], template, name_of(area)))
+}
+
+/// What isn't in RAM of a memory pool, where stacks and the pools before it have n bytes below the end of RAM.
+fn pool_fault<'a>(
+    symbols: &[Symbol],
+    pool: &PoolConfig,
+    ram: u64,
+    laid: &mut u64,
+) -> Option<Finding<'a>> {
+    let block = (pool.size as u64).saturating_add(3) / 4 * 4;
+    let size = block.saturating_mul(pool.count as u64);
+    let Stack::At(area) = &pool.area else {
+        *laid = laid.saturating_add(size);
+        let template =
+            b"the stacks and the fixed memory pools up to pool ? need more than the RAM of & KiB";
+        return (*laid > ram).then_some(Finding::at(&[], template, &[]));
+    };
+    let start = value_of(symbols, area)?;
+    if start % 4 != 0 {
+        let template = b"fixed memory pool ? begins at @, which is no multiple of 4";
+        return Some(Finding::at(&[], template, &[]).with_address(start));
+    }
+    let template = b"fixed memory pool ? at @ isn't in the RAM of & KiB from 0x80000000";
+    is_outside(start, size, ram).then_some(Finding::at(&[], template, &[]).with_address(start))
 }

@@ -7,7 +7,8 @@ use crate::names::{advice, near_name};
 use crate::scan::{behind, first};
 use crate::values_of::value_fault;
 use brd_config::{
-    ConfigFault, KEYWORDS, Keyword, attribute_named, class_of, keyword_of, open, protocol_named,
+    ConfigFault, KEYWORDS, Keyword, attribute_named, class_of, keyword_of, mailbox_attribute_named,
+    open, protocol_named,
 };
 use brd_text::{Token, is_digit, is_name, number};
 use std::alloc::Global;
@@ -38,10 +39,10 @@ struct Reading<'a> {
     told: Told,
     /// What is still to come of it.
     wanted: &'a [u8],
-    /// After an attribute: another may follow.
-    attribute: bool,
-    /// After a `|`: another does follow.
-    again: bool,
+    /// After an attribute that another may follow: of which kind.
+    attribute: Option<u8>,
+    /// After a `|`: of which kind the attribute is that follows.
+    again: Option<u8>,
     has_board: bool,
     in_class: bool,
     /// The line of the last token.
@@ -59,8 +60,8 @@ fn form_fault(text: &[u8], wanted: usize) -> Option<Finding<'_>> {
         word: &[],
         told: told_of(Keyword::Board),
         wanted: &[],
-        attribute: false,
-        again: false,
+        attribute: None,
+        again: None,
         has_board: false,
         in_class: false,
         line: 1,
@@ -106,25 +107,15 @@ impl<'a> Reading<'a> {
         if self.wanted.is_empty() {
             return self.begin(word);
         }
-        let kind = if self.again { b'a' } else { first(self.wanted) };
-        let is_number = number(word).is_some();
-        let fits = match kind {
-            b'n' => is_number,
-            b'v' => is_number || is_name(word),
-            b'z' => is_number || word == b"NULL".as_slice(),
-            b'a' => is_number || attribute_named(word).is_some(),
-            b'p' => is_number || protocol_named(word).is_some(),
-            b'c' => class_of(word).is_some(),
-            _ => false,
-        };
-        if !fits {
+        let kind = self.again.unwrap_or(first(self.wanted));
+        if !is_of_kind(kind, word) {
             return Some(self.misfit(kind, word));
         }
-        self.attribute = kind == b'a';
-        if !self.again {
+        self.attribute = matches!(kind, b'a' | b'm').then_some(kind);
+        if self.again.is_none() {
             self.wanted = behind(self.wanted, 1);
         }
-        self.again = false;
+        self.again = None;
         None
     }
 
@@ -133,13 +124,13 @@ impl<'a> Reading<'a> {
         if self.wanted.is_empty() {
             return self.mark_between(mark);
         }
-        if self.attribute && mark == b'|' {
-            self.attribute = false;
-            self.again = true;
+        if mark == b'|' && self.attribute.is_some() {
+            self.again = self.attribute;
+            self.attribute = None;
             return None;
         }
-        self.attribute = false;
-        if !self.again && mark == first(self.wanted) {
+        self.attribute = None;
+        if self.again.is_none() && mark == first(self.wanted) {
             self.wanted = behind(self.wanted, 1);
             if self.wanted.is_empty() && self.word == b"CLASS".as_slice() {
                 self.in_class = true;
@@ -173,7 +164,11 @@ impl<'a> Reading<'a> {
         let Some(keyword) = keyword_of(word) else {
             return Some(unknown_statement(self.standard, word));
         };
-        if !self.standard && matches!(keyword, Keyword::Mutex) {
+        let is_of_the_profile = matches!(
+            keyword,
+            Keyword::Mutex | Keyword::Pool | Keyword::Mailbox
+        );
+        if !self.standard && is_of_the_profile {
             return Some(no_statement(self.standard, word));
         }
         if !self.has_board && !matches!(keyword, Keyword::Board) {
@@ -199,7 +194,7 @@ impl<'a> Reading<'a> {
             b'{' => b"a { is missing: the form is ^".as_slice(),
             b'}' => b"a } is missing, or an operand is too many: the form is ^".as_slice(),
             b',' => b"a comma or an operand is missing: the form is ^".as_slice(),
-            b'a' | b'p' => b"an attribute is missing: the form is ^".as_slice(),
+            b'a' | b'm' | b'p' => b"an attribute is missing: the form is ^".as_slice(),
             _ => b"an operand is missing: the form is ^".as_slice(),
         };
         Finding::at(&[], template, self.word)
@@ -210,9 +205,10 @@ impl<'a> Reading<'a> {
     /// What is said of a run that isn't what is wanted.
     fn misfit(&self, kind: u8, word: &'a [u8]) -> Finding<'a> {
         let template = match kind {
-            b'a' | b'p' => b"unknown attribute ~: there are ^".as_slice(),
+            b'a' | b'm' | b'p' => b"unknown attribute ~: there are ^".as_slice(),
             b'c' => b"~ is no class: write TCL_ and the processor's number, as TCL_2".as_slice(),
             b'z' => b"~ stands where NULL or a number is wanted: the form is ^".as_slice(),
+            b'u' => b"~ stands where NULL is wanted: the form is ^".as_slice(),
             b'n' | b'v' if is_digit(first(word)) => {
                 b"~ is no number: decimal digits, or 0x and hexadecimal digits, below 2 to the 32nd".as_slice()
             }
@@ -220,12 +216,29 @@ impl<'a> Reading<'a> {
             b',' => b"a comma is missing before ~: the form is ^".as_slice(),
             _ => return self.missing(kind),
         };
-        let other = if kind == b'a' || kind == b'p' {
+        let other = if matches!(kind, b'a' | b'm' | b'p') {
             self.told.attributes
         } else {
             self.told.form
         };
         Finding::at(&[], template, word).with_other(other)
+    }
+}
+
+/// Whether a run is an operand of a kind.
+fn is_of_kind(kind: u8, word: &[u8]) -> bool {
+    let is_number = number(word).is_some();
+    let is_null = word == b"NULL".as_slice();
+    match kind {
+        b'n' => is_number,
+        b'v' => is_number || is_name(word),
+        b'z' => is_number || is_null,
+        b'u' => is_null,
+        b'a' => is_number || attribute_named(word).is_some(),
+        b'm' => is_number || mailbox_attribute_named(word).is_some(),
+        b'p' => is_number || protocol_named(word).is_some(),
+        b'c' => class_of(word).is_some(),
+        _ => false,
     }
 }
 

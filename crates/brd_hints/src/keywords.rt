@@ -6,7 +6,7 @@ use brd_config::Keyword;
 #[derive(Clone, Copy)]
 pub(crate) struct Told {
     /// Its marks and operands in their order. Of the operands `n` is a number, `v` a number or a name, `z` a number or
-    /// NULL, `a` attributes, `p` the protocol of a mutex, `c` a class.
+    /// NULL, `u` NULL, `a` attributes, `m` those of a mailbox, `p` the protocol of a mutex, `c` a class.
     pub marks: &'static [u8],
     /// Its form in words.
     pub form: &'static [u8],
@@ -67,6 +67,18 @@ pub(crate) fn told_of(keyword: Keyword) -> Told {
             attributes: b"TA_TFIFO, TA_TPRI, TA_INHERIT and TA_CEILING",
             again: b"mutex ? is there already, on line &",
         },
+        Keyword::Pool => Told {
+            marks: b"(n,{a,n,n,v});",
+            form: b"CRE_MPF(id, {attributes, blocks, block size, area});",
+            attributes: b"TA_TFIFO and TA_TPRI",
+            again: b"fixed memory pool ? is there already, on line &",
+        },
+        Keyword::Mailbox => Told {
+            marks: b"(n,{m,n,u});",
+            form: b"CRE_MBX(id, {attributes, priorities, NULL});",
+            attributes: b"TA_TFIFO, TA_TPRI, TA_MFIFO and TA_MPRI",
+            again: b"mailbox ? is there already, on line &",
+        },
         Keyword::Handler => Told {
             marks: b"(n,{a,v});",
             form: b"DEF_INH(line, {attributes, handler});",
@@ -82,15 +94,18 @@ pub(crate) const WORDS: &[u8] =
 
 /// The words that begin a statement with the profile.
 pub(crate) const WORDS_OF_THE_PROFILE: &[u8] =
-    b"there are BOARD, CLASS, CRE_TSK, CRE_SEM, CRE_FLG, CRE_DTQ, CRE_SPN, CRE_MTX and DEF_INH";
+    b"there are BOARD, CLASS, CRE_TSK, CRE_SEM, CRE_FLG, CRE_DTQ, \
+CRE_SPN, CRE_MTX, CRE_MPF, CRE_MBX and DEF_INH";
 
 /// What is said of statements that uITRON and TOPPERS have and this kernel hasn't: a line for those of which the same
-/// is said. With the profile there are mutexes.
+/// is said. With the profile there are mutexes, fixed memory pools and mailboxes.
 pub(crate) const OTHERS: &[u8] = b"\
 CRE_MTX: mutexes are there with PROFILE(STANDARD); before BOARD: else use CRE_SEM with a maximum of 1
 CRE_CYC CRE_ALM DEF_OVR: no cyclic or alarm handlers: a task can wait by dly_tsk
-CRE_MBX CRE_MBF CRE_POR CRE_PDQ: of queues there are data queues: use CRE_DTQ
-CRE_MPF CRE_MPL: no memory pools: reserve memory in the program
+CRE_MBX: mailboxes are there with PROFILE(STANDARD); before BOARD: else use CRE_DTQ
+CRE_MPF: fixed memory pools are there with PROFILE(STANDARD); before BOARD: else reserve memory in the program
+CRE_MBF CRE_POR CRE_PDQ: of queues there are data queues: use CRE_DTQ
+CRE_MPL: no memory pools of variable size: reserve memory in the program
 CRE_ISR ATT_ISR CFG_INT DEF_INT: an interrupt line has one handler: use DEF_INH(line, {attributes, handler})
 DEF_EXC DEF_TEX DEF_SVC DEF_ICS: no exception, task exception or extended service handlers
 ATT_INI ATT_TER ATT_MOD ATT_REG ATT_SEC: no such call: a task with TA_ACT starts at boot

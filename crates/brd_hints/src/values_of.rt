@@ -4,8 +4,8 @@ use crate::finding::Finding;
 use crate::keywords::told_of;
 use brd_base::is_ram_size;
 use brd_config::{
-    ConfigFault, Keyword, attribute_named, class_of, keyword_of, open, protocol_named, read_board,
-    read_statement,
+    ConfigFault, Keyword, attribute_named, class_of, keyword_of, mailbox_attribute_named, open,
+    protocol_named, read_board, read_statement,
 };
 use brd_text::{Scanner, Token, number};
 use std::alloc::Global;
@@ -26,7 +26,9 @@ struct Valued<'a> {
 
 /// What a run stands for.
 fn value_of(word: &[u8]) -> u64 {
-    let named = attribute_named(word).or(protocol_named(word));
+    let named = attribute_named(word)
+        .or(protocol_named(word))
+        .or(mailbox_attribute_named(word));
     match named.or(class_of(word)).or(number(word)) {
         Some(value) => value as u64,
         None => 0,
@@ -144,46 +146,57 @@ fn limit_of(fault: ConfigFault, keyword: Keyword, read: &Valued) -> Option<(usiz
                 b"~ has no attribute with the bits of ?: there are ^".as_slice(),
             )
         }
-        (ConfigFault::BadPriority { .. }, Keyword::Mutex) if read.value(1) == CEILING => {
-            (
-                2,
-                b"the ceiling of a mutex with TA_CEILING is 1 (highest) to 16, found ?".as_slice(),
-            )
-        }
-        (ConfigFault::BadPriority { .. }, Keyword::Mutex) => {
-            (2, b"the ceiling of a mutex is up to 16, found ?".as_slice())
-        }
-        (ConfigFault::BadPriority { .. }, _) => {
-            (
-                4,
-                b"the priority of a task is 1 (highest) to 16, found ?".as_slice(),
-            )
-        }
-        (ConfigFault::BadCount { .. }, Keyword::Board) => (1, ram_advice(read.value(1))),
-        (ConfigFault::BadCount { .. }, Keyword::Task) => {
-            (
-                5,
-                b"the stack size of a task is in bytes and not 0".as_slice(),
-            )
-        }
-        (ConfigFault::BadCount { .. }, Keyword::Semaphore) if is_maximum(read.value(3)) => {
-            (
-                2,
-                b"the initial count of a semaphore is at most its maximum &, found ?".as_slice(),
-            )
-        }
-        (ConfigFault::BadCount { .. }, Keyword::Semaphore) => {
-            (
-                3,
-                b"the maximum of a semaphore is 1 to 65535, found ?".as_slice(),
-            )
-        }
-        (ConfigFault::BadCount { .. }, Keyword::Queue) => {
-            (
-                2,
-                b"the capacity of a data queue is 0 to 256, found ?".as_slice(),
-            )
-        }
+        (ConfigFault::BadPriority { .. }, _) => priority_limit(keyword, read),
+        (ConfigFault::BadCount { .. }, _) => return count_limit(keyword, read),
+        _ => return None,
+    };
+    Some((slot, template))
+}
+
+/// The operand of a statement that is no priority, and what is said of it.
+fn priority_limit(keyword: Keyword, read: &Valued) -> (usize, &'static [u8]) {
+    match keyword {
+        Keyword::Mutex if read.value(1) == CEILING => (
+            2,
+            b"the ceiling of a mutex with TA_CEILING is 1 (highest) to 16, found ?".as_slice(),
+        ),
+        Keyword::Mutex => (2, b"the ceiling of a mutex is up to 16, found ?".as_slice()),
+        Keyword::Mailbox => (2, b"a mailbox has 1 to 16 priorities, found ?".as_slice()),
+        _ => (
+            4,
+            b"the priority of a task is 1 (highest) to 16, found ?".as_slice(),
+        ),
+    }
+}
+
+/// The operand of a statement that is no count or size, and what is said of it.
+fn count_limit(keyword: Keyword, read: &Valued) -> Option<(usize, &'static [u8])> {
+    let (slot, template) = match keyword {
+        Keyword::Board => (1, ram_advice(read.value(1))),
+        Keyword::Task => (
+            5,
+            b"the stack size of a task is in bytes and not 0".as_slice(),
+        ),
+        Keyword::Semaphore if is_maximum(read.value(3)) => (
+            2,
+            b"the initial count of a semaphore is at most its maximum &, found ?".as_slice(),
+        ),
+        Keyword::Semaphore => (
+            3,
+            b"the maximum of a semaphore is 1 to 65535, found ?".as_slice(),
+        ),
+        Keyword::Queue => (
+            2,
+            b"the capacity of a data queue is 0 to 256, found ?".as_slice(),
+        ),
+        Keyword::Pool if is_number_of_blocks(read.value(2)) => (
+            3,
+            b"the blocks of a fixed memory pool have 1 byte up to as many as RAM has, found ?".as_slice(),
+        ),
+        Keyword::Pool => (
+            2,
+            b"a fixed memory pool has 1 to 256 blocks, found ?".as_slice(),
+        ),
         _ => return None,
     };
     Some((slot, template))
@@ -201,6 +214,11 @@ fn ram_advice(size: u64) -> &'static [u8] {
 /// Whether a semaphore can have a maximum.
 fn is_maximum(maximum: u64) -> bool {
     maximum != 0 && maximum <= u16::MAX as u64
+}
+
+/// Whether a fixed memory pool can have so many blocks.
+fn is_number_of_blocks(count: u64) -> bool {
+    count != 0 && count <= 256
 }
 
 /// What is defined for the second time, where n statements from BOARD on stand before it.

@@ -23,13 +23,15 @@ use Rattle.brd_objects.specs.Semaphores.{returned, first_waiter}
 use Rattle.brd_objects.specs.Flags.{joined, all_released, with_all_released}
 use Rattle.brd_objects.specs.DataQueues.{DataQueueState, sent, outcome, forced, forced_outcome, received}
 use Rattle.brd_objects.specs.Mutexes.{given, next_owner_in}
+use Rattle.brd_objects.specs.Pools.{PoolState, given_back, next_holder}
+use Rattle.brd_objects.specs.Mailboxes.{MailboxState, message_sent, message_outcome}
 use Rattle.brd_kernel.specs.declared.processor.Processor.{Processor}
 use Rattle.brd_kernel.specs.declared.processor.Executor.{Executor}
 use Rattle.brd_kernel.specs.declared.processor.Executor.TheVariants as executor
 use Rattle.brd_kernel.specs.Answer.{e_ok}
 use Rattle.brd_kernel.specs.Kernel.{KernelState, with_tasks, with_processor, processor_at, with_context_of, handles}
 use Rattle.brd_kernel.specs.Waits.{can_wait, with_wait, released_in, reason_of, unlisted, broken_off, ended_in, answer_by, timed_out, all_timed_out, faulted_task, faulted_in, shown_until, with_released, given_in, all_given_in, quits_in, prioritized}
-use Rattle.brd_kernel.specs.Services.{with_all_released_in, with_satisfied_of, handed_over, unmarked_on, caller_on}
+use Rattle.brd_kernel.specs.Services.{with_all_released_in, with_satisfied_of, handed_over, released_with_second, message_of, unmarked_on, caller_on}
 use Rattle.brd_kernel.proofs.PricedLemmas.{priced, priced_in}
 use Rattle.brd_kernel.proofs.SettledLemmas.{Settles, all-given, all-prioritized}
 use Rattle.brd_kernel.proofs.WaitLemmas.{unlisted-only, reordered-only}
@@ -175,6 +177,10 @@ handed-has them k datum (Handed id) has = released-has them k id e_ok (Some datu
 handed-has them k datum Stored has = has
 handed-has them k datum Full has = has
 
+second-has : (them : List Bool) (k : KernelState) (second : ℕ) (first : Option ℕ) → Has them k → Has them (released_with_second k second first)
+second-has them k second None has = has
+second-has them k second (Some id) has = released-has them k id e_ok (Some second) has
+
 unmarked-has : (them : List Bool) (k : KernelState) (cpu : ℕ) (p : Option Processor) → Has them k → Has them (unmarked_on k cpu p)
 unmarked-has them k cpu None has = has
 unmarked-has them k cpu (Some p) has = has
@@ -241,6 +247,13 @@ call-law them k cpu has =
           released-if-has them (record k { queues = object_changed received k.queues id }) it.sender has;
       locks = λ id m there. has;
       gives = λ id m there. given-has them k id has;
+      hands-out = λ id p block there is. has;
+      gives-back = λ id block (p : PoolState) there.
+          second-has them (record k { pools = object_changed (given_back block) k.pools id }) block (next_holder block p) has;
+      posts = λ id address priority (m : MailboxState) there.
+          handed-has them (record k { mailboxes = object_changed (message_sent (message_of address priority)) k.mailboxes id }) address
+          (message_outcome m) has;
+      fetches = λ id m address there is. has;
       awaits = λ id due lacks may. wait-has them k caller (reason.On (lacked lacks) id) due (awaiting k caller id lacks) has;
       writes = λ word. has;
       ends_all = has;

@@ -21,6 +21,8 @@ kind_text WaitKind.Flag = codes "for event flag"
 kind_text WaitKind.Room = codes "to send to data queue"
 kind_text WaitKind.Datum = codes "to receive from data queue"
 kind_text WaitKind.Mutex = codes "for mutex"
+kind_text WaitKind.Block = codes "for a block of pool"
+kind_text WaitKind.Message = codes "to receive from mailbox"
 
 abbrev pub reason_text : WaitReason → List ℕ
 reason_text reason.Sleep = codes "for a wake-up"

@@ -32,6 +32,8 @@ fn wait_name(kind: WaitKind) -> &'static str
         WaitKind::Room => "to send to data queue",
         WaitKind::Datum => "to receive from data queue",
         WaitKind::Mutex => "for mutex",
+        WaitKind::Block => "for a block of pool",
+        WaitKind::Message => "to receive from mailbox",
     }
 }
 

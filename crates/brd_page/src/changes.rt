@@ -138,6 +138,8 @@ fn put_wait(json: &mut Json, reason: WaitReason) -> Result<(), NoMemory> {
         WaitReason::On(WaitKind::Room, id) => ("to send to data queue", id),
         WaitReason::On(WaitKind::Datum, id) => ("to receive from data queue", id),
         WaitReason::On(WaitKind::Mutex, id) => ("for mutex", id),
+        WaitReason::On(WaitKind::Block, id) => ("for a block of pool", id),
+        WaitReason::On(WaitKind::Message, id) => ("to receive from mailbox", id),
     };
     json.string(name.as_bytes())?;
     json.number(u64::from(id))

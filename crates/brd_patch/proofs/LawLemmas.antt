@@ -11,10 +11,11 @@ use Rattle.brd_config.specs.declared.fault.ConfigFault.{ConfigFault}
 use Rattle.brd_elf.specs.Meaning.{meaning}
 use Rattle.brd_elf.specs.declared.fault.ElfFault.{ElfFault}
 use Rattle.brd_tasks.specs.declared.task.TaskSetup.{TaskSetup}
+use Rattle.brd_objects.specs.declared.block.PoolSetup.{PoolSetup}
 use Rattle.brd_kernel.specs.declared.processor.LineSetup.{LineSetup}
 use Rattle.brd_board.specs.Board.{BoardState}
 use Rattle.brd_board.specs.Boot.{are_inside, boot, booted_board, booted_kernel, loaded, memory_of}
-use Rattle.brd_board.specs.Setup.{setups_of, handlers_of}
+use Rattle.brd_board.specs.Setup.{setups_of, handlers_of, pools_of}
 use Rattle.brd_board.specs.declared.boot.BootFault.{BootFault}
 use Rattle.brd_board.specs.declared.boot.BootFault.TheVariants.{Outside}
 use Rattle.brd_image.specs.Building.{booted, step}
@@ -36,18 +37,20 @@ abbrev loaded_if : Bool → Memory → Result Memory BootFault
 loaded_if inside memory = if inside then Ok memory else Err Outside
 
 -- what follows the loading of memory
-abbrev from : Configuration → Result (List TaskSetup) BootFault → Result (List LineSetup) BootFault → Memory → Result BoardState BootFault
-from config setups lines memory =
-    setups >>= λ tasks. lines >>= λ handlers. Ok (booted_board (booted_kernel tasks handlers config) memory)
+abbrev from : Configuration → Result (List TaskSetup) BootFault → Result (List LineSetup) BootFault → Result (List PoolSetup) BootFault → Memory →
+    Result BoardState BootFault
+from config setups lines pools memory =
+    setups >>= λ tasks. lines >>= λ handlers. pools >>= λ blocks. Ok (booted_board (booted_kernel tasks handlers blocks config) memory)
 
-from_with : (config : Configuration) (setups : Result (List TaskSetup) BootFault) (lines : Result (List LineSetup) BootFault) (one other : Memory)
-    (start : BoardState) → from config setups lines one ≡ Ok start →
-    (start.memory ≡ one) × (from config setups lines other ≡ Ok (with_memory start other))
-from_with config (Ok tasks) (Ok handlers) one other start gives =
-    let same : start ≡ booted_board (booted_kernel tasks handlers config) one = cc in
+from_with : (config : Configuration) (setups : Result (List TaskSetup) BootFault) (lines : Result (List LineSetup) BootFault)
+    (pools : Result (List PoolSetup) BootFault) (one other : Memory) (start : BoardState) → from config setups lines pools one ≡ Ok start →
+    (start.memory ≡ one) × (from config setups lines pools other ≡ Ok (with_memory start other))
+from_with config (Ok tasks) (Ok handlers) (Ok blocks) one other start gives =
+    let same : start ≡ booted_board (booted_kernel tasks handlers blocks config) one = cc in
     (ap (λ (it : BoardState). it.memory) same, ap (λ (it : BoardState). done (with_memory it other)) (sym same))
-from_with config (Ok tasks) (Err fault) one other start gives = let wrong : ⊥ = cc in absurd wrong
-from_with config (Err fault) lines one other start gives = let wrong : ⊥ = cc in absurd wrong
+from_with config (Ok tasks) (Ok handlers) (Err fault) one other start gives = let wrong : ⊥ = cc in absurd wrong
+from_with config (Ok tasks) (Err fault) pools one other start gives = let wrong : ⊥ = cc in absurd wrong
+from_with config (Err fault) lines pools one other start gives = let wrong : ⊥ = cc in absurd wrong
 
 -- one piece
 
@@ -66,14 +69,15 @@ boot_one image config piece start gives = go (are_inside config.ram (with_piece 
   where
     go : (inside : Bool) → are_inside config.ram (with_piece image.segments piece) ≡ inside →
         (loaded_if inside (memory_of image.order config.ram (with_piece image.segments piece)) >>= λ memory.
-        from config (setups_of config.ram image.symbols config.tasks) (handlers_of config.ram image.symbols config.handlers) memory) ≡ Ok start →
+        from config (setups_of config.ram image.symbols config.tasks) (handlers_of config.ram image.symbols config.handlers)
+        (pools_of config.ram image.symbols config.tasks config.pools) memory) ≡ Ok start →
         IsWithOne image config piece start
     go true inside booted_so =
         let both = inside_with config.ram image.segments piece inside in
         let without : Memory = memory_of image.order config.ram image.segments in
         let is_with = memory_with image.order config.ram image.segments piece both.1 in
         let parts = from_with config (setups_of config.ram image.symbols config.tasks) (handlers_of config.ram image.symbols config.handlers)
-        (memory_of image.order config.ram (with_piece image.segments piece)) without start booted_so in
+        (pools_of config.ram image.symbols config.tasks config.pools) (memory_of image.order config.ram (with_piece image.segments piece)) without start booted_so in
         (with_memory start without, rw both.0 parts.1, ap (with_memory start) (parts.0 ∙ is_with))
     go false inside booted_so = let wrong : ⊥ = cc in absurd wrong
 

@@ -1,5 +1,5 @@
--- Who takes the steps of a plan, by its rule (own choice); docs/JOURNAL.md has the rules in words. Steps are counted
--- from 0, processors from 1. `Drawn` and `Lowered` of the code are named only by contracts of private functions.
+-- Who takes the steps of a plan, by its rule (own choice); docs/dev/INSIDE.md has the rules in words. Steps are
+-- counted from 0, processors from 1. Contracts of private functions alone name `Drawn` and `Lowered` of the code.
 use Rattle.std.specs.Prelude.{◌≡◌, ℕ, zero, suc, ◌+◌, ◌-◌, ◌/◌, ◌%◌, ◌^◌, ◌==◌, ◌<◌, min, max, nat_lt}
 use Rattle.std.specs.Prelude.{nat_le, ◌&&◌, if◌then◌else◌, List, [], ◌∷◌, ◌++◌, map, set, length}
 use Rattle.std.specs.List.{sum}

@@ -35,10 +35,11 @@ pub fn context_advice(number: u32) -> Option<&'static str> {
         20 => "not from a handler, which calls irel_wai, nor with the CPU locked",
         24 => "not from a handler, which calls isig_sem, nor with the CPU locked",
         28 => "not from a handler, which calls iset_flg, nor with the CPU locked",
+        86 => "not from a handler, which calls isnd_mbx, nor with the CPU locked",
         34 => "not from a handler, which calls ipsnd_dtq, nor with the CPU locked",
         36 => "not from a handler, which calls ifsnd_dtq, nor with the CPU locked",
         3 => "not from a handler, which ends by ret_int",
-        16 | 17 | 23 | 25 | 27 | 30 | 32 | 33 | 35 | 37 | 39 | 77 | 79 => {
+        16 | 17 | 23 | 25 | 27 | 30 | 32 | 33 | 35 | 37 | 39 | 77 | 79 | 82 | 84 | 88 | 90 => {
             "it may wait: not from a handler, nor with the CPU locked or dispatching disabled"
         }
         2
@@ -59,7 +60,12 @@ pub fn context_advice(number: u32) -> Option<&'static str> {
         | 61
         | 78
         | 80
-        | 81 => { "not from a handler, nor with the CPU locked" }
+        | 81
+        | 83
+        | 85
+        | 89
+        | 91
+        | 92 => { "not from a handler, nor with the CPU locked" }
         15 => "not from a handler, nor with a spin lock held",
         14 | 41 | 62 => "not from a handler",
         48 => "from a handler alone: a task calls act_tsk",
@@ -73,6 +79,7 @@ pub fn context_advice(number: u32) -> Option<&'static str> {
         56 => "from a handler alone: a task calls get_tid",
         57 => "from a handler alone: a task calls mact_tsk",
         58 => "from a handler alone: a task ends by ext_tsk",
+        87 => "from a handler alone: a task calls snd_mbx",
         _ => return None,
     };
     Some(advice)

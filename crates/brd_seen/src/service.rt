@@ -14,7 +14,7 @@ pub enum Shown {
     Nothing,
     /// As a signed decimal number: IDs, priorities, processors, times, modes.
     Number,
-    /// As 0x and hexadecimal digits: bits of event flags, data.
+    /// As 0x and hexadecimal digits: bits of event flags, data, addresses.
     Bits,
     /// As a character, where it is printable ASCII: the low byte.
     Character,
@@ -115,7 +115,9 @@ fn arguments_of(call: Call) -> [Shown; 4] {
         | Call::ClrFlg(..)
         | Call::TwaiFlg(..)
         | Call::TsndDtq(..)
-        | Call::FsndDtq(..) => (Shown::Number, Shown::Bits),
+        | Call::FsndDtq(..)
+        | Call::RelMpf(..)
+        | Call::SndMbx(..) => (Shown::Number, Shown::Bits),
         _ => (Shown::Number, Shown::Number),
     };
     [first, second, Shown::Number, Shown::Number]
@@ -132,8 +134,14 @@ fn second_of(call: Call) -> Shown {
         | Call::RefTsk(..)
         | Call::RefSem(..)
         | Call::RefDtq(..)
-        | Call::RefMtx(..) => Shown::Number,
-        Call::TwaiFlg(..) | Call::TrcvDtq(..) | Call::RefFlg(..) => Shown::Bits,
+        | Call::RefMtx(..)
+        | Call::RefMpf(..) => Shown::Number,
+        Call::TwaiFlg(..)
+        | Call::TrcvDtq(..)
+        | Call::RefFlg(..)
+        | Call::TgetMpf(..)
+        | Call::TrcvMbx(..)
+        | Call::RefMbx(..) => Shown::Bits,
         _ => Shown::Nothing,
     }
 }

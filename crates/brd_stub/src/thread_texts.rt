@@ -182,6 +182,12 @@ pub fn show_reason(alloc: Global, out: &mut Vec<u8>, reason: WaitReason) -> Resu
         WaitReason::On(WaitKind::Mutex, object) => {
             show_number(alloc, out, "waits for mutex", object as u16)?
         }
+        WaitReason::On(WaitKind::Block, object) => {
+            show_number(alloc, out, "waits for a block of pool", object as u16)?
+        }
+        WaitReason::On(WaitKind::Message, object) => {
+            show_number(alloc, out, "waits to receive from mailbox", object as u16)?
+        }
         WaitReason::On(WaitKind::Room, object) => {
             show_number(alloc, out, "waits to send to data queue", object as u16)?
         }

@@ -50,7 +50,7 @@ made_are n (suc (suc (suc (suc (suc (suc (suc (suc (suc cpu))))))))) few = grind
 -- the tasks that a boot has started
 abbrev booted_kernel_tasks : List TaskSetup → List LineSetup → Configuration → TaskTable
 booted_kernel_tasks s l config =
-    let first : KernelState = made_kernel config.standard config.processors s l config.semaphores config.flags config.queues config.spin_locks config.mutexes in
+    let first : KernelState = made_kernel config.standard config.processors s l config.semaphores config.flags config.queues config.spin_locks config.mutexes [] [] in
     all_started first.tasks config.tasks
 
 pub booted_are : (image : Image) (config : Configuration) (board : BoardState) (cpu : ℕ) → IsConfiguration config → boot image config ≡ Ok board
@@ -58,7 +58,7 @@ pub booted_are : (image : Image) (config : Configuration) (board : BoardState) (
 unfolding has_processor
 booted_are image config board cpu valid is =
     boot-begins (λ b. has_processor b cpu ≡ (nat_le 1 cpu && nat_le cpu config.processors)) image config board
-    (λ s l m are. all_stay (booted_kernel_tasks s l config) 0 (idle_ones config.processors 9) cpu ∙ made_are config.processors cpu valid.processors.most) is
+    (λ s l p m are. all_stay (booted_kernel_tasks s l config) 0 (idle_ones config.processors 9) cpu ∙ made_are config.processors cpu valid.processors.most) is
 
 -- how many pass a test that says the same
 same_prefix : (f g : ℕ → Bool) (xs : List ℕ) → ((x : ℕ) → f x ≡ g x) → prefix_len f xs ≡ prefix_len g xs
