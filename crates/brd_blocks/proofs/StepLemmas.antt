@@ -127,6 +127,7 @@ hidden-step known b cpu address who set next told keeps lasts hides free =
         apart = λ at touched. hidden-apart known.owners s b.memory at hides touched;
         keeps = keeps-so known b who s refl keeps;
         lasting = sym (mortal-who known.mortals who) ∙ not-true (is_mortal_owner known.mortals (owner_of who)) lasts;
+        unseen = λ there is. refl;
       };
       apart = ends;
     }

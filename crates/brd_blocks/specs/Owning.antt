@@ -67,6 +67,7 @@ sharing_of known = record {
   shared = λ address. is_shared (owner_at known.owners address);
   owner = λ address. agent_of (owner_at known.owners address);
   mortal = is_mortal_agent known.mortals;
+  seen = λ address. false;
 }
 
 -- all that was shared stays shared

@@ -1,9 +1,9 @@
--- Boards of which one lags behind the other by invisible instructions fail alike.
-use Rattle.std.proofs.Common.{◌≡◌, ℕ, ◌+◌, ◌-◌, ◌≤◌, Bool, true, false, not, List, [], ◌∷◌, refl, sym, ap, subst, ◌∙◌, arith}
-use Rattle.std.specs.Prelude.{◌%◌, ◌^◌, ◌==◌, ◌&&◌, ◌||◌, if◌then◌else◌, bytes_eq, nat_lt, slice_index, slice_index_or, Option, None, Some, is_some}
+-- A board that lags behind another one by invisible instructions fails where that one does.
+use Rattle.std.proofs.Common.{◌≡◌, ℕ, zero, suc, ◌+◌, ◌-◌, ◌≤◌, ◌⊎◌, inl, inr, Bool, true, false, not, List, [], ◌∷◌, refl, sym, ap, subst, ◌∙◌, arith}
+use Rattle.std.specs.Prelude.{◌%◌, ◌^◌, ◌==◌, ◌&&◌, ◌||◌, if◌then◌else◌, bytes_eq, nat_lt, slice_index, slice_index_or, slice_set, Option, None, Some, is_some}
 use Rattle.std.specs.Option.{option_map}
 use Rattle.std.specs.List.{All, list_any}
-use Rattle.std.proofs.lemmas.Bool.{false≢true}
+use Rattle.std.proofs.lemmas.Bool.{false≢true, eqb-true, eq-eqb}
 use Rattle.std.proofs.lemmas.Bool.Decides.{nat_tests}
 use Rattle.std.proofs.lemmas.List.Elements.{All-head, All-tail}
 use Rattle.brd_base.specs.Space.{base}
@@ -13,16 +13,16 @@ use Rattle.brd_exec.specs.declared.outcome.Outcome.{Outcome}
 use Rattle.brd_exec.specs.declared.outcome.Outcome.TheVariants.{Done, Syscall, Exception}
 use Rattle.brd_exec.specs.Step.{ran}
 use Rattle.brd_tasks.specs.declared.task.Task.{Task}
-use Rattle.brd_tasks.specs.Tasks.{shown, task_at, context_at, with_context}
+use Rattle.brd_tasks.specs.Tasks.{no_context, shown, task_at, context_at, with_context}
 use Rattle.brd_kernel.specs.declared.processor.Processor.{Processor}
 use Rattle.brd_kernel.specs.declared.processor.Executor.{Executor}
-use Rattle.brd_kernel.specs.Kernel.{KernelState, processor_at, executor_on, context_of, deliverable}
+use Rattle.brd_kernel.specs.Kernel.{KernelState, processor_at, executor_on, context_of, context_on, deliverable}
 use Rattle.brd_time.specs.Time.{due_of}
 use Rattle.brd_kernel.specs.Waits.{shown_until, seen_at}
 use Rattle.brd_board.specs.Executing.{executed_by, executed_in}
 use Rattle.brd_board.specs.declared.event.Event.TheVariants.{Step}
 use Rattle.brd_board.specs.declared.event.Report.TheVariants as report
-use Rattle.brd_board.specs.Board.{BoardState, Happened, reported, with_executed, instruction_done, executes_in, accepts_or_executes, stepped_in, happens_on, happens, task_of}
+use Rattle.brd_board.specs.Board.{BoardState, Happened, reported, with_executed, instruction_done, executes_in, accepts_or_executes, stepped_in, happens_on, happens, registers_of, task_of}
 use Rattle.brd_journal.specs.Still.{did_nothing}
 use Rattle.brd_explore.specs.declared.bounds.Bounds.{Bounds}
 use Rattle.brd_explore.specs.declared.condition.Condition.{Condition}
@@ -32,16 +32,17 @@ use Rattle.brd_explore.specs.declared.wanted.Failure.{Failure}
 use Rattle.brd_explore.specs.declared.wanted.Failure.TheVariants as failure
 use Rattle.brd_explore.specs.declared.wanted.Wanted.{Wanted}
 use Rattle.brd_explore.specs.Schedules.{does}
-use Rattle.brd_explore.specs.Failures.{some_below, nobody_goes, waits, has_due, some_are_due, is_stuck, word_in, word_of, is_value, is_between, begins_with, fails_by_now, fails_at_last, fails_now, lacks, is_at_rest, is_end, is_cut, fails_fairly, goes_fairly, fails_at}
+use Rattle.brd_explore.specs.Failures.{some_below, nobody_goes, waits, has_due, some_are_due, is_stuck, word_in, word_of, is_value, is_between, begins_with, is_at, fails_by_now, fails_at_last, fails_now, lacks, is_at_rest, is_end, is_cut, fails_fairly, goes_fairly, fails_at}
 use Rattle.brd_frames.specs.Agents as agents
-use Rattle.brd_frames.specs.Agents.{Agent, context_in, with_context_in}
+use Rattle.brd_frames.specs.Agents.{Agent, agent_by, context_in, with_context_in}
 use Rattle.brd_frames.specs.Touching.{stores, changed, put_at}
 use Rattle.brd_frames.specs.Lagging.{Sharing, IsInvisible, Lags}
 use Rattle.brd_frames.proofs.DeedLemmas.{get-bytes}
 use Rattle.brd_frames.proofs.FootprintLemmas.{PutsAt, put-keeps, put-length, stores-touches}
+use Rattle.brd_frames.proofs.GoingLemmas.{context-by}
 use Rattle.brd_frames.proofs.LagLemmas.{Leads, leads, leads-kernel}
 use Rattle.brd_explore.specs.Failures.{worth, plus, sum_of, is_so, holds}
-use Rattle.brd_reach.specs.Reaching.{IsSharedTerm, IsSharedWord, IsGuarded, Guards}
+use Rattle.brd_reach.specs.Reaching.{IsSharedTerm, IsSharedWord, IsGuarded, IsSeen, Guards}
 
 -- Whether a step does something is a matter of the kernel, but for contexts.
 
@@ -152,7 +153,52 @@ byte-put memory first bytes stored address puts none =
     let there : address ≡ first + i = omega (arith, is, above, puts.from) in
     false≢true (sym none ∙ puts.at address (omega (arith, there)) (omega (arith, there, below)))))
 
--- What failures are about is the same on two boards.
+-- Who stands at an instruction to which nobody comes unseen.
+
+set-choice : {X : Type 0} (xs : List X) (i j : ℕ) (x d : X) →
+    (slice_index_or (slice_set xs i x) j d ≡ x) ⊎ (slice_index_or (slice_set xs i x) j d ≡ slice_index_or xs j d)
+set-choice [] i j x d = inr refl
+set-choice (y ∷ ys) zero zero x d = inl refl
+set-choice (y ∷ ys) zero (suc j) x d = inr refl
+set-choice (y ∷ ys) (suc i) zero x d = inr refl
+set-choice (y ∷ ys) (suc i) (suc j) x d = set-choice ys i j x d
+
+context-choice : (k : KernelState) (who x : Agent) (s : State) →
+    (context_in (with_context_in k who s) x ≡ s) ⊎ (context_in (with_context_in k who s) x ≡ context_in k x)
+context-choice k (agents.Task id) (agents.Task at) s = set-choice k.tasks.contexts id at s no_context
+context-choice k (agents.Task id) (agents.Handler at) s = inr refl
+context-choice k (agents.Handler cpu) (agents.Task at) s = inr refl
+context-choice k (agents.Handler cpu) (agents.Handler at) s = set-choice k.handler_contexts cpu at s no_context
+
+executor-put : (k : KernelState) (who : Agent) (s : State) (cpu : ℕ) → executor_on (with_context_in k who s) cpu ≡ executor_on k cpu
+executor-put k (agents.Task id) s cpu = refl
+executor-put k (agents.Handler at) s cpu = refl
+
+stands-by : (by : Sharing) (k : KernelState) (who : Agent) (s : State) (cpu address : ℕ) (found : Option Executor) → by.seen s.pc ≡ false →
+    by.seen address ≡ true → is_at address (option_map (context_of (with_context_in k who s) cpu) found) ≡ true →
+    is_at address (option_map (context_of k cpu) found) ≡ true
+stands-by by k who s cpu address None unseen seen at = at
+stands-by by k who s cpu address (Some x) unseen seen at =
+    let new : KernelState = with_context_in k who s in
+    let there : (context_in new (agent_by cpu x)).pc ≡ address =
+    ap (λ (c : State). c.pc) (context-by new cpu x) ∙ eqb-true (context_of new cpu x).pc address at in
+    elim (context-choice k who (agent_by cpu x) s) [
+      | inl own ↦
+          absurd (false≢true
+          (sym unseen ∙ ap by.seen (sym (ap (λ (c : State). c.pc) own) ∙ there) ∙ seen))
+      | inr same ↦
+          eq-eqb (context_of k cpu x).pc address
+          (ap (λ (c : State). c.pc) (sym (context-by k cpu x)) ∙ sym (ap (λ (c : State). c.pc) same) ∙ there)
+    ]
+
+stands-put : (by : Sharing) (k : KernelState) (who : Agent) (s : State) (cpu address : ℕ) → by.seen s.pc ≡ false → by.seen address ≡ true →
+    is_at address (context_on (with_context_in k who s) cpu) ≡ true → is_at address (context_on k cpu) ≡ true
+stands-put by k who s cpu address unseen seen at =
+    stands-by by k who s cpu address (executor_on k cpu) unseen seen
+    (subst (λ found. is_at address (option_map (context_of (with_context_in k who s) cpu) found) ≡ true) (executor-put k who s cpu) at)
+
+-- What failures are about is the same on two boards; but of instructions to which nobody comes unseen this alone, that a
+-- processor that stands at one of them on the second board does so on the first.
 pub record Alike (by : Sharing) (b c : BoardState) : Type 0 where
   pub off : c.kernel.off ≡ b.kernel.off
   pub console : c.kernel.console ≡ b.kernel.console
@@ -162,6 +208,8 @@ pub record Alike (by : Sharing) (b c : BoardState) : Type 0 where
   pub due : (id : ℕ) → has_due (task_of c id) ≡ has_due (task_of b id)
   pub order : c.memory.order ≡ b.memory.order
   pub bytes : (address : ℕ) → by.shared address ≡ true → byte_at c.memory address ≡ byte_at b.memory address
+  pub stands : (cpu address : ℕ) → by.seen address ≡ true → is_at address (registers_of c cpu) ≡ true →
+      is_at address (registers_of b cpu) ≡ true
 
 alike-own : (by : Sharing) (b : BoardState) → Alike by b b
 alike-own by b = record {
@@ -173,6 +221,7 @@ alike-own by b = record {
   due = λ id. refl;
   order = refl;
   bytes = λ address shared. refl;
+  stands = λ cpu address seen at. at;
 }
 
 alike-more : (by : Sharing) (a b c : BoardState) → Alike by a b → Alike by b c → Alike by a c
@@ -185,6 +234,7 @@ alike-more by a b c one two = record {
   due = λ id. two.due id ∙ one.due id;
   order = two.order ∙ one.order;
   bytes = λ address shared. two.bytes address shared ∙ one.bytes address shared;
+  stands = λ cpu address seen at. one.stands cpu address seen (two.stands cpu address seen at);
 }
 
 false-by : (x : Bool) → (x ≡ true → ⊥) → x ≡ false
@@ -197,7 +247,7 @@ unstored by b new who address it shared =
     false-by (stores (context_in b.kernel who) b.memory address) (λ stored.
     false≢true (sym (it.apart address (stores-touches (context_in b.kernel who) b.memory address stored)) ∙ shared))
 
--- an invisible instruction leaves all that
+-- an invisible instruction leaves all that so
 alike-step : (by : Sharing) (b new : BoardState) (who : Agent) → IsInvisible by b who new → Alike by b new
 alike-step by b new who it =
     let led : Leads b who new = leads b who new it.goes in
@@ -215,6 +265,9 @@ alike-step by b new who it =
           ap (λ (x : BoardState). byte_at x.memory address) led.is
           ∙ byte-put b.memory led.put.first led.put.bytes (stores (context_in b.kernel who) b.memory) address led.put.puts
           (unstored by b new who address it shared);
+      stands = λ cpu address seen at.
+          stands-put by b.kernel who led.gone.context cpu address (it.unseen led.gone led.means) seen
+          (subst (λ k. is_at address (context_on k cpu) ≡ true) kernel at);
     }
 
 pub alike-lags : (by : Sharing) (b new : BoardState) (steps : List Agent) → Lags by b steps new → Alike by b new
@@ -222,7 +275,7 @@ alike-lags by b new [] lags = subst (Alike by b) (sym lags) (alike-own by b)
 alike-lags by b new (who ∷ more) lags =
     alike-more by b lags.0 new (alike-step by b lags.0 who lags.1) (alike-lags by lags.0 new more lags.3)
 
--- So both fail alike.
+-- So where the second one fails, the first one does.
 
 nobody-alike : (by : Sharing) (b c : BoardState) → Alike by b c → nobody_goes c ≡ nobody_goes b
 nobody-alike by b c it = λ i. not (some_below 9 (λ cpu. it.goes cpu i))
@@ -260,19 +313,34 @@ unfolding holds
 holds-alike by b c condition it shared = λ i.
     is_so condition.order (sum-alike by b c condition.left it shared.left i) (sum-alike by b c condition.right it shared.right i)
 
-now-alike : (by : Sharing) (b c : BoardState) (f : Failure) → Alike by b c → IsGuarded by f → fails_by_now c f ≡ fails_by_now b f
+or-so : (w x y z : Bool) → (w ≡ true → y ≡ true) → (x ≡ true → z ≡ true) → (w || x) ≡ true → (y || z) ≡ true
+or-so true x true z one two is = refl
+or-so true x false z one two is = absurd (false≢true (one refl))
+or-so false x true z one two is = refl
+or-so false x false z one two is = two is
+
+some-so : (n : ℕ) (one two : ℕ → Bool) → ((cpu : ℕ) → two cpu ≡ true → one cpu ≡ true) → some_below n two ≡ true → some_below n one ≡ true
+unfolding some_below
+some-so zero one two so is = is
+some-so (suc n) one two so is = or-so (some_below n two) (two n) (some_below n one) (one n) (some-so n one two so) (so n) is
+
+now-fails : (by : Sharing) (b c : BoardState) (f : Failure) → Alike by b c → IsGuarded by f → IsSeen by f → fails_by_now c f ≡ true →
+    fails_by_now b f ≡ true
 unfolding fails_by_now
-now-alike by b c failure.Exception it guarded = ap (λ faults. some_below 9 (λ cpu. is_some (slice_index_or faults cpu None))) it.faults
-now-alike by b c failure.Deadlock it guarded = stuck-alike by b c it
-now-alike by b c (failure.Console text) it guarded = ap (λ console. not (begins_with text console)) it.console
-now-alike by b c (failure.Word address value) it guarded = refl
-now-alike by b c (failure.Outside address least most) it guarded =
-    ap (λ word. not (is_between least most word)) (word-alike by b c address it guarded)
-now-alike by b c (failure.Holds condition) it guarded = holds-alike by b c condition it guarded
-now-alike by b c failure.On it guarded = refl
-now-alike by b c failure.Ended it guarded = refl
-now-alike by b c (failure.Unlisted texts) it guarded = refl
-now-alike by b c (failure.At address) it guarded = absurd guarded
+now-fails by b c failure.Exception it guarded seen fails =
+    sym (ap (λ faults. some_below 9 (λ cpu. is_some (slice_index_or faults cpu None))) it.faults) ∙ fails
+now-fails by b c failure.Deadlock it guarded seen fails = sym (stuck-alike by b c it) ∙ fails
+now-fails by b c (failure.Console text) it guarded seen fails = sym (ap (λ console. not (begins_with text console)) it.console) ∙ fails
+now-fails by b c (failure.Word address value) it guarded seen fails = fails
+now-fails by b c (failure.Outside address least most) it guarded seen fails =
+    sym (ap (λ word. not (is_between least most word)) (word-alike by b c address it guarded)) ∙ fails
+now-fails by b c (failure.Holds condition) it guarded seen fails = sym (holds-alike by b c condition it guarded) ∙ fails
+now-fails by b c failure.On it guarded seen fails = fails
+now-fails by b c failure.Ended it guarded seen fails = fails
+now-fails by b c (failure.Unlisted texts) it guarded seen fails = fails
+now-fails by b c (failure.At address) it guarded seen fails =
+    some-so 9 (λ cpu. is_at address (registers_of b cpu)) (λ cpu. is_at address (registers_of c cpu))
+    (λ cpu. it.stands cpu address seen) fails
 
 last-alike : (by : Sharing) (b c : BoardState) (f : Failure) → Alike by b c → IsGuarded by f → fails_at_last c f ≡ fails_at_last b f
 unfolding fails_at_last
@@ -295,6 +363,13 @@ any-same P one two [] all same = refl
 any-same P one two (x ∷ xs) all same = λ i.
     same x (All-head P x xs all) i || any-same P one two xs (All-tail P x xs all) same i
 
+any-so : {X : Type 0} (P Q : X → Type 0) (one two : X → Bool) (xs : List X) → All P xs → All Q xs →
+    ((x : X) → P x → Q x → two x ≡ true → one x ≡ true) → list_any two xs ≡ true → list_any one xs ≡ true
+any-so P Q one two [] ps qs so is = is
+any-so P Q one two (x ∷ xs) ps qs so is =
+    or-so (two x) (list_any two xs) (one x) (list_any one xs) (so x (All-head P x xs ps) (All-head Q x xs qs))
+    (any-so P Q one two xs (All-tail P x xs ps) (All-tail Q x xs qs) so) is
+
 no-fair : (wanted : Wanted) (b : BoardState) (left : Bounds) → wanted.rounds ≡ 0 → goes_fairly wanted b left ≡ false
 unfolding goes_fairly
 no-fair wanted b left none = ap (λ n. nat_lt 0 n && left.owed == 0 && is_cut b left) none
@@ -313,15 +388,25 @@ fails-soon wanted b left none =
     ap (λ fair. fails_soon wanted b left || (fair && fails_fairly wanted b)) (no-fair wanted b left none)
     ∙ or-none (fails_soon wanted b left) (fails_fairly wanted b)
 
-soon-alike : (by : Sharing) (wanted : Wanted) (b c : BoardState) (one other : Bounds) → Guards by wanted → Alike by b c →
-    other.owed ≡ one.owed → fails_soon wanted c other ≡ fails_soon wanted b one
-unfolding fails_now is_end
-soon-alike by wanted b c one other guards it owed = λ i.
-    any-same (IsGuarded by) (fails_by_now b) (fails_by_now c) wanted.failures guards (λ f. now-alike by b c f it) i
-    || ((it.off i || (owed i == 0 && rest-alike by b c it i))
-    && any-same (IsGuarded by) (fails_at_last b) (fails_at_last c) wanted.failures guards (λ f. last-alike by b c f it) i)
+ends-alike : (by : Sharing) (wanted : Wanted) (b c : BoardState) (one other : Bounds) → Guards by wanted → Alike by b c →
+    other.owed ≡ one.owed → (is_end c other && lacks wanted c) ≡ (is_end b one && lacks wanted b)
+unfolding is_end
+ends-alike by wanted b c one other guards it owed = λ i.
+    (it.off i || (owed i == 0 && rest-alike by b c it i))
+    && any-same (IsGuarded by) (fails_at_last b) (fails_at_last c) wanted.failures guards.memory (λ f. last-alike by b c f it) i
 
-pub fails-alike : (by : Sharing) (wanted : Wanted) (b c : BoardState) (one other : Bounds) → wanted.rounds ≡ 0 → Guards by wanted →
-    Alike by b c → other.owed ≡ one.owed → fails_at wanted c other ≡ fails_at wanted b one
-fails-alike by wanted b c one other none guards it owed =
-    fails-soon wanted c other none ∙ soon-alike by wanted b c one other guards it owed ∙ sym (fails-soon wanted b one none)
+soon-fails : (by : Sharing) (wanted : Wanted) (b c : BoardState) (one other : Bounds) → Guards by wanted → Alike by b c →
+    other.owed ≡ one.owed → fails_soon wanted c other ≡ true → fails_soon wanted b one ≡ true
+unfolding fails_now
+soon-fails by wanted b c one other guards it owed fails =
+    or-so (list_any (fails_by_now c) wanted.failures) (is_end c other && lacks wanted c) (list_any (fails_by_now b) wanted.failures)
+    (is_end b one && lacks wanted b)
+    (any-so (IsGuarded by) (IsSeen by) (fails_by_now b) (fails_by_now c) wanted.failures guards.memory guards.instructions
+    (λ f. now-fails by b c f it))
+    (λ is. sym (ends-alike by wanted b c one other guards it owed) ∙ is) fails
+
+pub fails-behind : (by : Sharing) (wanted : Wanted) (b c : BoardState) (one other : Bounds) → wanted.rounds ≡ 0 → Guards by wanted →
+    Alike by b c → other.owed ≡ one.owed → fails_at wanted c other ≡ true → fails_at wanted b one ≡ true
+fails-behind by wanted b c one other none guards it owed fails =
+    fails-soon wanted b one none
+    ∙ soon-fails by wanted b c one other guards it owed (sym (fails-soon wanted c other none) ∙ fails)

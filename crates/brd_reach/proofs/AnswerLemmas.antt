@@ -1,8 +1,8 @@
 -- What failures watch stays shared, and what a search answers.
-use Rattle.std.proofs.Common.{◌≡◌, ℕ, Bool, true, false, List, [], ◌∷◌, length, refl, sym, subst, ◌∙◌, ◌⊎◌, inl, inr, arith}
-use Rattle.std.proofs.lemmas.Bool.{false≢true}
+use Rattle.std.proofs.Common.{◌≡◌, ℕ, zero, suc, Bool, true, false, List, [], ◌∷◌, length, refl, sym, subst, ◌∙◌, ◌⊎◌, inl, inr, arith}
+use Rattle.std.proofs.lemmas.Bool.{false≢true, eq-eqb}
 use Rattle.std.specs.Prelude.{◌<◌, ◌+◌, get_or, ◌%◌, ◌^◌, ◌==◌, ◌&&◌, ◌||◌, not, nat_lt, if◌then◌else◌}
-use Rattle.std.specs.List.{All}
+use Rattle.std.specs.List.{All, list_any}
 use Rattle.brd_board.specs.declared.event.Event.{Event}
 use Rattle.brd_board.specs.Board.{BoardState}
 use Rattle.brd_explore.specs.declared.bounds.Bounds.{Bounds}
@@ -23,10 +23,10 @@ use Rattle.brd_blocks.proofs.LinkLemmas.{stays-set}
 use Rattle.brd_places.specs.declared.left.Left.{Left}
 use Rattle.brd_frames.proofs.ReduceLemmas.{reduced}
 use Rattle.brd_places.specs.Places.{Place}
-use Rattle.brd_reach.specs.Rounds.{AreDone, IsMore}
+use Rattle.brd_reach.specs.Rounds.{AreDone, IsMore, sharing_for, some_watch, watches}
 use Rattle.brd_reach.proofs.ReachLemmas.{none-fails}
 use Rattle.brd_reach.proofs.RoundLemmas.{closed, get-more, IsGoodPlace}
-use Rattle.brd_reach.specs.Reaching.{Guards, IsGuarded, IsSharedTerm, IsSharedWord, bounds_of, fails_there}
+use Rattle.brd_reach.specs.Reaching.{AreGuarded, Guards, IsGuarded, IsSeen, IsSharedTerm, IsSharedWord, bounds_of, fails_there}
 
 word-stays : (old new : Sharing) (address : ℕ) → StaysShared old new → IsSharedWord old address → IsSharedWord new address
 word-stays old new address stays it = record {
@@ -54,7 +54,7 @@ guarded-stays old new (failure.Holds condition) stays it =
 guarded-stays old new failure.On stays it = tt
 guarded-stays old new failure.Ended stays it = tt
 guarded-stays old new (failure.Unlisted texts) stays it = tt
-guarded-stays old new (failure.At address) stays it = absurd it
+guarded-stays old new (failure.At address) stays it = tt
 
 pub all-stay : (old new : Sharing) (failures : List Failure) → StaysShared old new → All (IsGuarded old) failures → All (IsGuarded new) failures
 all-stay old new failures stays all = λ k d less. guarded-stays old new (get_or failures k d) stays (all k d less)
@@ -86,6 +86,40 @@ fails-last wanted b left none fails =
     (λ off. off-rests b.kernel.off (nobody_goes b && not (some_are_due b)) off))
 
 -- What a search answers.
+
+-- nobody comes unseen to what a failure watches, if it is one of these
+seen-one : (known : Known) (wanted : Wanted) (f : Failure) →
+    ((address : ℕ) → watches address f ≡ true → some_watch wanted.failures address ≡ true) → IsSeen (sharing_for known wanted) f
+seen-one known wanted failure.Exception so = tt
+seen-one known wanted failure.Deadlock so = tt
+seen-one known wanted (failure.Console text) so = tt
+seen-one known wanted (failure.Word address value) so = tt
+seen-one known wanted (failure.Outside address least most) so = tt
+seen-one known wanted (failure.Holds condition) so = tt
+seen-one known wanted failure.On so = tt
+seen-one known wanted failure.Ended so = tt
+seen-one known wanted (failure.Unlisted texts) so = tt
+seen-one known wanted (failure.At address) so = so address (eq-eqb address address refl)
+
+or-first : (x y : Bool) → x ≡ true → (x || y) ≡ true
+or-first true y is = refl
+or-first false y is = absurd (false≢true is)
+
+or-second : (x y : Bool) → y ≡ true → (x || y) ≡ true
+or-second true y is = refl
+or-second false y is = is
+
+any-at : {X : Type 0} (has : X → Bool) (xs : List X) (k : ℕ) (d : X) → k < length xs → has (get_or xs k d) ≡ true → list_any has xs ≡ true
+any-at has [] k d less is = absurd (omega (arith, less))
+any-at has (x ∷ xs) zero d less is = or-first (has x) (list_any has xs) is
+any-at has (x ∷ xs) (suc k) d less is = or-second (has x) (list_any has xs) (any-at has xs k d (omega (arith, less)) is)
+
+pub guards-so : (known : Known) (wanted : Wanted) → AreGuarded (sharing_of known) wanted.failures → Guards (sharing_for known wanted) wanted
+guards-so known wanted guarded = record {
+  memory = all-stay (sharing_of known) (sharing_for known wanted) wanted.failures (λ address is. is) guarded;
+  instructions = λ k d less.
+      seen-one known wanted (get_or wanted.failures k d) (λ address is. any-at (watches address) wanted.failures k d less is);
+}
 
 pub holds-so : (by : Sharing) (among : List Event) (wanted : Wanted) (places : List Place) (left : Left) (b : BoardState) → wanted.rounds ≡ 0 →
     Guards by wanted → IsMore (record { left = left; board = b } ∷ []) places → AreDone by among wanted places (length places) →

@@ -7,7 +7,7 @@ use Rattle.brd_frames.specs.Reducing.{Reaches, ReductionLaw}
 use Rattle.brd_places.specs.declared.left.Left.{Left}
 use Rattle.brd_reach.specs.Reaching.{bounds_of, pays, ClosedLaw}
 use Rattle.brd_reach.proofs.WayLemmas.{left_of, Way, way}
-use Rattle.brd_reach.proofs.AlikeLemmas.{Alike, alike-lags, fails-alike}
+use Rattle.brd_reach.proofs.AlikeLemmas.{Alike, alike-lags, fails-behind}
 
 pub none-fails : ReductionLaw → ClosedLaw
 none-fails law by among wanted In left b none closed there events preemptions es within fails =
@@ -21,5 +21,4 @@ none-fails law by among wanted In left b none closed there events preemptions es
     subst (Alike by reached.place) taken.is (alike-lags by reached.place (after b taken.done) reached.lagging reached.lags) in
     false≢true
     (sym (closed.holds rest reached.place reached.there)
-    ∙ sym (fails-alike by wanted reached.place to.board (bounds_of rest 0 0) to.left none closed.guards it refl)
-    ∙ fails)
+    ∙ fails-behind by wanted reached.place to.board (bounds_of rest 0 0) to.left none closed.guards it refl fails)

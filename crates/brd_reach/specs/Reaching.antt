@@ -68,7 +68,7 @@ pub record IsSharedCondition (by : Sharing) (condition : Condition) : Type 0 whe
   pub left : AreSharedTerms by condition.left
   pub right : AreSharedTerms by condition.right
 
--- what a failure watches of memory is shared; of instructions, which nobody else sees, it watches none
+-- what a failure watches of memory is shared
 abbrev pub IsGuarded : Sharing → Failure → Type 0
 IsGuarded by failure.Exception = Unit {0}
 IsGuarded by failure.Deadlock = Unit {0}
@@ -79,12 +79,23 @@ IsGuarded by (failure.Holds condition) = IsSharedCondition by condition
 IsGuarded by failure.On = Unit {0}
 IsGuarded by failure.Ended = Unit {0}
 IsGuarded by (failure.Unlisted texts) = Unit {0}
-IsGuarded by (failure.At address) = ⊥
+IsGuarded by (failure.At address) = Unit {0}
 
-abbrev pub Guards : Sharing → Wanted → Type 0
-Guards by wanted = All (IsGuarded by) wanted.failures
+abbrev pub AreGuarded : Sharing → List Failure → Type 0
+AreGuarded by failures = All (IsGuarded by) failures
 
--- A tree of places, what failures watch being shared, of which none fails.
+-- nobody comes unseen to the instruction that a failure watches
+abbrev pub IsSeen : Sharing → Failure → Type 0
+IsSeen by (failure.At address) = by.seen address ≡ true
+IsSeen by _ = Unit {0}
+
+-- what failures watch, of memory and of instructions
+pub record Guards (by : Sharing) (wanted : Wanted) : Type 0 where
+  pub memory : AreGuarded by wanted.failures
+  pub instructions : All (IsSeen by) wanted.failures
+
+-- A tree of places of which none fails; what failures watch of memory is shared, and nobody comes unseen to an
+-- instruction that they watch.
 pub record IsClosed (by : Sharing) (among : List Event) (wanted : Wanted) (In : Left → BoardState → Type 0) :
     Type 0 where
   pub tree : IsTree by Left (pays among) In

@@ -1,18 +1,25 @@
 -- What a search through places has done at one of them. (Contracts of private functions alone name this.)
-use Rattle.std.specs.Prelude.{◌≡◌, ◌⊎◌, ℕ, ◌<◌, ◌≤◌, true, false, List, ◌++◌, length, replicate, slice_get}
-use Rattle.std.specs.Prelude.{◌-◌, nat_lt, if◌then◌else◌, Option, Some, None}
+use Rattle.std.specs.Prelude.{◌≡◌, ◌⊎◌, ℕ, ◌<◌, ◌≤◌, ◌==◌, Bool, true, false, List, ◌++◌, length, replicate}
+use Rattle.std.specs.Prelude.{slice_get, ◌-◌, nat_lt, if◌then◌else◌, Option, Some, None}
+use Rattle.std.specs.List.{list_any}
+use Rattle.brd_exec.specs.State.{State}
 use Rattle.brd_link.specs.LinkSet.{IsLinkSet}
 use Rattle.brd_board.specs.declared.event.Event.{Event}
 use Rattle.brd_board.specs.declared.event.Event.TheVariants.{Step, Tick, Raise}
 use Rattle.brd_board.specs.Board.{BoardState, happens, after}
 use Rattle.brd_explore.specs.Schedules.{event_at}
+use Rattle.brd_explore.specs.declared.wanted.Failure.{Failure}
+use Rattle.brd_explore.specs.declared.wanted.Failure.TheVariants as failure
 use Rattle.brd_explore.specs.declared.wanted.Wanted.{Wanted}
 use Rattle.brd_frames.specs.Agents.{Agent}
 use Rattle.brd_frames.specs.Going.{IsNext}
 use Rattle.brd_frames.specs.Commuting.{EndsNoLink}
 use Rattle.brd_frames.specs.Lagging.{Sharing, Keeps, IsInvisible, Path}
 use Rattle.brd_frames.specs.Reducing.{IsQuiet, EndsMortals}
+use Rattle.brd_blocks.specs.Owning.{Known, sharing_of}
 use Rattle.brd_blocks.specs.Stepping.{AllStandWell}
+use Rattle.brd_blocks.specs.declared.stepped.Stepped.{Stepped}
+use Rattle.brd_blocks.specs.declared.stepped.Stepped.TheVariants as stepped
 use Rattle.brd_places.specs.Places.{Place}
 use Rattle.brd_places.specs.declared.left.Left.{Left}
 use Rattle.brd_reach.specs.Reaching.{pays, fails_there}
@@ -22,6 +29,32 @@ use Rattle.brd_reach.specs.declared.visit.Tried.{Tried}
 use Rattle.brd_reach.specs.declared.visit.Tried.TheVariants as tried
 use Rattle.brd_reach.specs.declared.round.Round.{Round}
 use Rattle.brd_reach.specs.declared.round.Round.TheVariants as round
+
+-- What failures watch.
+
+-- a failure watches the instruction at an address
+abbrev pub watches : ℕ → Failure → Bool
+watches address (failure.At other) = other == address
+watches address _ = false
+
+-- some of these failures watch it
+abbrev pub some_watch : List Failure → ℕ → Bool
+some_watch failures address = list_any (watches address) failures
+
+-- the same of the instruction that is the next one in a context
+abbrev pub are_watching : List Failure → Option State → Bool
+are_watching failures None = false
+are_watching failures (Some context) = some_watch failures context.pc
+
+-- Who may touch which word, and who is mortal; and nobody comes unseen to an instruction that failures watch.
+abbrev pub sharing_for : Known → Wanted → Sharing
+sharing_for known wanted = record (sharing_of known) { seen = some_watch wanted.failures }
+
+-- what a step is that is this by itself, and may come to an instruction that is watched
+abbrev pub shown : Stepped → Bool → Stepped
+shown stepped.Invisible true = stepped.Visible
+shown stepped.Invisible false = stepped.Invisible
+shown step watched = step
 
 -- Places.
 

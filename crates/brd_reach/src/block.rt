@@ -1,16 +1,18 @@
-//! Blocks: invisible instructions of a processor, and one that others may see.
+//! Blocks: invisible instructions of a processor, and one that others may see, or that comes to an instruction that
+//! failures watch.
 
 ghost use Rattle.std.specs.Prelude.{◌≡◌, ◌≤◌, IfOk, ℕ as Nat};
 ghost use Rattle.brd_link.specs.LinkSet.{IsLinkSet};
 ghost use Rattle.brd_board.specs.Board.{BoardState as BoardOf};
-ghost use Rattle.brd_blocks.specs.Owning.{sharing_of};
 ghost use Rattle.brd_blocks.specs.Stepping.{AllStandWell};
-ghost use Rattle.brd_reach.specs.Rounds.{HasWalked, WentBy, WentTo};
+ghost use Rattle.brd_reach.specs.Rounds.{HasWalked, WentBy, WentTo, sharing_for};
 
+use crate::step::step;
 use crate::unknown::Unknown;
 use brd_base::NoMemory;
 use brd_blocks::{Sharing, Stepped, stands_well};
 use brd_board::Board;
+use brd_explore::Wanted;
 
 /// How many instructions a block has before the first board is kept to which it may come back, besides the one with
 /// which it began (own choice).
@@ -35,42 +37,50 @@ pub(crate) enum Block {
 /// Lets a processor do a block from a place on. The board is at first that of the place.
 pub(crate) fn go(
     sharing: &Sharing,
+    wanted: &Wanted,
     place: &Board,
     board: &mut Board,
     cpu: u8,
 ) -> Result<Block, NoMemory>
     requires { place.now ≡ board.old }
-    ensures { IsLinkSet board.old.links → IfOk result (WentBy (sharing_of sharing.now) board.old cpu board.new) }
+    ensures { IsLinkSet board.old.links →
+        IfOk result (WentBy (sharing_for sharing.now wanted.now) board.old cpu board.new) }
 {
     if !stands_well(board, cpu) {
         return Ok(Block::Unknown(Unknown::Waits));
     }
-    match sharing.step(board, cpu) {
+    match step(sharing, wanted, board, cpu) {
         Stepped::Off => Ok(Block::Stays),
         Stepped::Nothing => Ok(Block::Stays),
         Stepped::Accepted => Ok(Block::Leads(1)),
         Stepped::Visible => Ok(Block::Leads(1)),
-        Stepped::Invisible => go_on(sharing, place, board, cpu),
+        Stepped::Invisible => go_on(sharing, wanted, place, board, cpu),
         Stepped::Strays => Ok(Block::Strays(0)),
     }
 }
 
 /// Lets a processor go on with a block that has begun at a place by an invisible instruction.
-fn go_on(sharing: &Sharing, place: &Board, board: &mut Board, cpu: u8) -> Result<Block, NoMemory>
-    ensures { AllStandWell place.now cpu → HasWalked (sharing_of sharing.now) place.now cpu 0 place.now →
-        HasWalked (sharing_of sharing.now) place.now cpu 1 board.old →
-        IfOk result (WentBy (sharing_of sharing.now) place.now cpu board.new) }
+fn go_on(
+    sharing: &Sharing,
+    wanted: &Wanted,
+    place: &Board,
+    board: &mut Board,
+    cpu: u8,
+) -> Result<Block, NoMemory>
+    ensures { AllStandWell place.now cpu → HasWalked (sharing_for sharing.now wanted.now) place.now cpu 0 place.now →
+        HasWalked (sharing_for sharing.now wanted.now) place.now cpu 1 board.old →
+        IfOk result (WentBy (sharing_for sharing.now wanted.now) place.now cpu board.new) }
 {
-    if let Some(block) = go_to(sharing, place, board, cpu, 1, FEW_STEPS) {
+    if let Some(block) = go_to(sharing, wanted, place, board, cpu, 1, FEW_STEPS) {
         return Ok(block);
     }
-    go_far(sharing, board, cpu)
+    go_far(sharing, wanted, board, cpu)
 }
 
 /// Lets a processor go on with a block that has had so few instructions, all of them invisible.
-fn go_far(sharing: &Sharing, board: &mut Board, cpu: u8) -> Result<Block, NoMemory>
-    ensures { (b : BoardOf) → AllStandWell b cpu → HasWalked (sharing_of sharing.now) b cpu 1024 board.old →
-        IfOk result (WentBy (sharing_of sharing.now) b cpu board.new) }
+fn go_far(sharing: &Sharing, wanted: &Wanted, board: &mut Board, cpu: u8) -> Result<Block, NoMemory>
+    ensures { (b : BoardOf) → AllStandWell b cpu → HasWalked (sharing_for sharing.now wanted.now) b cpu 1024 board.old →
+        IfOk result (WentBy (sharing_for sharing.now wanted.now) b cpu board.new) }
 {
     let mut count = FEW_STEPS;
     for _ in 0..MOST_KEPT {
@@ -78,7 +88,7 @@ fn go_far(sharing: &Sharing, board: &mut Board, cpu: u8) -> Result<Block, NoMemo
             return Ok(Block::Unknown(Unknown::Long));
         };
         let kept = board.try_copy()?;
-        if let Some(block) = go_to(sharing, &kept, board, cpu, count, upto) {
+        if let Some(block) = go_to(sharing, wanted, &kept, board, cpu, count, upto) {
             return Ok(block);
         }
         count = upto;
@@ -90,6 +100,7 @@ fn go_far(sharing: &Sharing, board: &mut Board, cpu: u8) -> Result<Block, NoMemo
 /// many: what the block came to, if it ended, or if it came back to the board that was kept.
 fn go_to(
     sharing: &Sharing,
+    wanted: &Wanted,
     kept: &Board,
     board: &mut Board,
     cpu: u8,
@@ -98,13 +109,13 @@ fn go_to(
 ) -> Option<Block>
     requires { count ≤ upto }
     ensures { (b : BoardOf) (early : Nat) → AllStandWell b cpu → early ≤ count →
-        HasWalked (sharing_of sharing.now) b cpu early kept.now →
-        HasWalked (sharing_of sharing.now) b cpu count board.old →
-        WentTo (sharing_of sharing.now) b cpu upto board.new result }
+        HasWalked (sharing_for sharing.now wanted.now) b cpu early kept.now →
+        HasWalked (sharing_for sharing.now wanted.now) b cpu count board.old →
+        WentTo (sharing_for sharing.now wanted.now) b cpu upto board.new result }
 {
     let registers = kept.registers(cpu);
     for at in count..upto {
-        match sharing.step(board, cpu) {
+        match step(sharing, wanted, board, cpu) {
             Stepped::Invisible => {}
             Stepped::Visible => return Some(Block::Leads(at + 1)),
             Stepped::Strays => return Some(Block::Strays(at)),

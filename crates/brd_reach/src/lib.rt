@@ -11,6 +11,7 @@ mod held;
 pub mod laws;
 mod round;
 mod searching;
+mod step;
 mod stop;
 mod unknown;
 mod visit;

@@ -1,8 +1,7 @@
 //! Rounds: all places are visited, one after the other.
 
 ghost use Rattle.std.specs.Prelude.{IfOk};
-ghost use Rattle.brd_blocks.specs.Owning.{sharing_of};
-ghost use Rattle.brd_reach.specs.Rounds.{IsMore, RoundSo};
+ghost use Rattle.brd_reach.specs.Rounds.{IsMore, RoundSo, sharing_for};
 
 use crate::unknown::Unknown;
 use crate::visit::{Tried, visit};
@@ -40,7 +39,7 @@ pub(crate) fn visit_all(
     most: usize,
 ) -> Result<Round, NoMemory>
     ensures more { IsMore places.old places.new }
-    ensures so { IfOk result (RoundSo (sharing_of sharing.now) among.now wanted.now places.new) }
+    ensures so { IfOk result (RoundSo (sharing_for sharing.now wanted.now) among.now wanted.now places.new) }
 {
     for at in 0..most {
         if at >= places.len() {

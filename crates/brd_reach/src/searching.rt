@@ -1,8 +1,8 @@
 //! The search through all places.
 
-ghost use Rattle.std.specs.Prelude.{◌≡◌, IfOk, IfSome, List as ListOf, true};
+ghost use Rattle.std.specs.Prelude.{◌≡◌, IfOk, List as ListOf};
 ghost use Rattle.brd_blocks.specs.Owning.{StayShared, sharing_of};
-ghost use Rattle.brd_reach.specs.Reaching.{AreSharedTerms, Guards, IsGuarded, IsSharedCondition, IsSharedTerm};
+ghost use Rattle.brd_reach.specs.Reaching.{AreGuarded, AreSharedTerms, IsGuarded, IsSharedCondition, IsSharedTerm};
 ghost use Rattle.brd_reach.specs.Reaching.{IsSharedWord, ReachedSo};
 
 use crate::held::{Held, what_holds};
@@ -46,9 +46,7 @@ pub fn reach(
         return Ok(Reached::Unknown(Unknown::Fair));
     }
     let size = ram_len(start);
-    let Some(mut sharing) = guarded(alloc, size, wanted)? else {
-        return Ok(Reached::Unknown(Unknown::Instruction));
-    };
+    let mut sharing = guarded(alloc, size, wanted)?;
     for _ in 0..MOST_ROUNDS {
         let words = owned_words(alloc, &sharing, size)?;
         let mut places = Places::new(alloc, start, left)?;
@@ -92,37 +90,29 @@ fn ram_len(board: &Board) -> u32 {
     PAGES * PAGE
 }
 
-/// Who may touch which word of a RAM of this size: all what failures watch, and nobody's else. None if a failure
-/// watches instructions.
-fn guarded(alloc: Global, size: u32, wanted: &Wanted) -> Result<Option<Sharing>, NoMemory>
-    ensures { IfOk result (λ found. IfSome found (λ sharing. Guards (sharing_of sharing) wanted.now)) }
+/// Who may touch which word of a RAM of this size: all what failures watch, and nobody's else.
+fn guarded(alloc: Global, size: u32, wanted: &Wanted) -> Result<Sharing, NoMemory>
+    ensures { IfOk result (λ sharing. AreGuarded (sharing_of sharing) wanted.now.failures) }
 {
     let mut sharing = Sharing::new(alloc, size)?;
     for failure in wanted.failures.as_slice() {
-        if !guard(&mut sharing, failure) {
-            return Ok(None);
-        }
+        guard(&mut sharing, failure);
     }
-    Ok(Some(sharing))
+    Ok(sharing)
 }
 
-/// All may touch what a failure watches, from now on. Answers whether it watches nothing else.
-fn guard(sharing: &mut Sharing, failure: &Failure) -> bool
+/// All may touch what a failure watches of memory, from now on.
+fn guard(sharing: &mut Sharing, failure: &Failure)
     ensures stays { StayShared sharing.old sharing.new }
-    ensures guarded { result ≡ true → IsGuarded (sharing_of sharing.new) failure.now }
+    ensures guarded { IsGuarded (sharing_of sharing.new) failure.now }
 {
     match failure {
         Failure::Word { address, .. } | Failure::Outside { address, .. } => {
             guard_word(sharing, *address);
-            true
         }
-        Failure::Holds(condition) => {
-            guard_condition(sharing, condition);
-            true
-        }
-        Failure::Exception | Failure::Deadlock | Failure::Console(_) => true,
-        Failure::On | Failure::Ended | Failure::Unlisted(_) => true,
-        Failure::At { .. } => false,
+        Failure::Holds(condition) => guard_condition(sharing, condition),
+        Failure::Exception | Failure::Deadlock | Failure::Console(_) => {}
+        Failure::On | Failure::Ended | Failure::Unlisted(_) | Failure::At { .. } => {}
     }
 }
 

@@ -12,8 +12,6 @@ pub enum Unknown {
     Rounds,
     /// Schedules go on to a fair end, of which nothing can be said.
     Fair,
-    /// It is looked for who comes to an instruction, which no other can see.
-    Instruction,
     /// A processor executes what can't be said to go on.
     Waits,
 }

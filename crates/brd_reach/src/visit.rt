@@ -4,10 +4,9 @@ ghost use Rattle.std.specs.Prelude.{◌≡◌, IfOk, OnOk, List as ListOf, Some,
 ghost use Rattle.brd_board.specs.declared.event.Event.{Event as EventOf};
 ghost use Rattle.brd_board.specs.declared.event.Event.TheVariants.{Step};
 ghost use Rattle.brd_board.specs.Board.{after};
-ghost use Rattle.brd_blocks.specs.Owning.{sharing_of};
 ghost use Rattle.brd_places.specs.Places.{Place};
 ghost use Rattle.brd_reach.specs.Reaching.{bounds_of};
-ghost use Rattle.brd_reach.specs.Rounds.{IsAt, IsMore, IsPaid, IsPlace, TriedSo, VisitedSo, paid};
+ghost use Rattle.brd_reach.specs.Rounds.{IsAt, IsMore, IsPaid, IsPlace, TriedSo, VisitedSo, paid, sharing_for};
 
 use crate::block::{Block, go};
 use crate::stop::stop_at;
@@ -47,7 +46,7 @@ pub(crate) fn visit(
 ) -> Result<Tried, NoMemory>
     ensures more { (place : Place) → slice_get places.old at ≡ Some place → IsMore places.old places.new }
     ensures so { (place : Place) → slice_get places.old at ≡ Some place →
-        IfOk result (VisitedSo (sharing_of sharing.now) among.now wanted.now places.new place) }
+        IfOk result (VisitedSo (sharing_for sharing.now wanted.now) among.now wanted.now places.new place) }
 {
     let board = places.board(at)?;
     let left = places.left(at);
@@ -56,7 +55,9 @@ pub(crate) fn visit(
     }
     ways.come(alloc, stop_at(&board, left)?, board.console())?;
     for event in among {
-        match try_event(places, ways, at, &board, left, sharing, words, *event)? {
+        match try_event(
+            places, ways, at, &board, left, sharing, words, wanted, *event,
+        )? {
             Tried::Done => {}
             Tried::Fails => return Ok(Tried::Fails),
             Tried::Strays(cpu, count) => return Ok(Tried::Strays(cpu, count)),
@@ -88,14 +89,15 @@ fn try_event(
     left: Left,
     sharing: &Sharing,
     words: &[u32],
+    wanted: &Wanted,
     event: Event,
 ) -> Result<Tried, NoMemory>
     ensures more { IsAt places.old at left board.now → IsMore places.old places.new }
     ensures so { (among : ListOf EventOf) → IsAt places.old at left board.now →
-        IfOk result (TriedSo (sharing_of sharing.now) among places.new left board.now event) }
+        IfOk result (TriedSo (sharing_for sharing.now wanted.now) among places.new left board.now event) }
 {
     match event {
-        Event::Step(cpu) => try_step(places, ways, at, board, left, sharing, words, cpu),
+        Event::Step(cpu) => try_step(places, ways, at, board, left, sharing, words, wanted, cpu),
         Event::Tick => try_other(places, ways, at, board, left, words, event),
         Event::Raise(_) => try_other(places, ways, at, board, left, words, event),
     }
@@ -110,17 +112,18 @@ fn try_step(
     left: Left,
     sharing: &Sharing,
     words: &[u32],
+    wanted: &Wanted,
     cpu: u8,
 ) -> Result<Tried, NoMemory>
     ensures more { IsAt places.old at left board.now → IsMore places.old places.new }
     ensures so { (among : ListOf EventOf) → IsAt places.old at left board.now →
-        IfOk result (TriedSo (sharing_of sharing.now) among places.new left board.now (Step cpu)) }
+        IfOk result (TriedSo (sharing_for sharing.now wanted.now) among places.new left board.now (Step cpu)) }
 {
     if cpu == 0 || cpu > 8 {
         return Ok(Tried::Unknown(Unknown::Waits));
     }
     let mut last = board.try_copy()?;
-    match go(sharing, board, &mut last, cpu)? {
+    match go(sharing, wanted, board, &mut last, cpu)? {
         Block::Stays => Ok(Tried::Done),
         Block::Leads(count) => {
             note(

@@ -25,7 +25,7 @@ HasSet (Ok b) = IsLinkSet b.links
 HasSet (Err fault) = Unit {0}
 
 boot-set : (image : Image) (config : Configuration) (r : Result BoardState BootFault) → boot image config ≡ r → HasSet (step Boot r)
-boot-set image config (Ok b) is = boot-begins (λ (x : BoardState). IsLinkSet x.links) image config b (λ s l m setups. tt) is
+boot-set image config (Ok b) is = boot-begins (λ (x : BoardState). IsLinkSet x.links) image config b (λ s l p m setups. tt) is
 boot-set image config (Err fault) is = tt
 
 booted-set : (image : Image) (c : Result Configuration ConfigFault) →

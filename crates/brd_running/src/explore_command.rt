@@ -388,9 +388,7 @@ fn fault_of(why: Unknown) -> SearchFault
     match why {
         Unknown::Places => SearchFault::MorePlaces,
         Unknown::Long => SearchFault::LongBlock,
-        Unknown::Rounds | Unknown::Fair | Unknown::Instruction | Unknown::Waits => {
-            SearchFault::Unlearned
-        }
+        Unknown::Rounds | Unknown::Fair | Unknown::Waits => SearchFault::Unlearned,
     }
 }
 

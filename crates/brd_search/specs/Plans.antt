@@ -395,7 +395,7 @@ bounds_of options said = record {
 abbrev pub is_plain : SearchOptions → Bool
 is_plain options =
     options.sizes.fair == 0 && options.remember == 0 && options.time == 0 && not options.shortest
-    && not (is_some (text_of options.shard)) && not (is_some (text_of options.looks.reach))
+    && not (is_some (text_of options.shard))
 
 -- They don't ask for such a search, nor for boards from which no schedule comes to an end, or they ask for nothing
 -- else.

@@ -61,7 +61,7 @@ pub enum SearchFault {
     #[error("--out names the object file or the configuration")]
     OverInput,
     /// A search without bounds is to do what it doesn't know.
-    #[error("--places goes with none of --fair, --reach, --remember, --shard, --shortest and --time")]
+    #[error("--places goes with none of --fair, --remember, --shard, --shortest and --time")]
     Places,
     /// A search that may take so many seconds is to find the shortest schedule.
     #[error("--time doesn't go with --shortest")]

@@ -105,8 +105,8 @@ pub fn plan_of(
     })
 }
 
-/// A search without bounds goes through the whole, and to no fair end; it finds what it finds, remembers all places,
-/// and sees no single instructions. It alone knows of boards from which no schedule comes to an end, and of all ends.
+/// A search without bounds goes through the whole, and to no fair end; it finds what it finds, and remembers all
+/// places. It alone knows of boards from which no schedule comes to an end, and of all ends.
 fn check_places(options: &SearchOptions<'_>) -> Result<(), SearchFault>
     ensures { MatchResult result (λ _. places_fit options.now ≡ true) (DontFit options.now) }
 {
@@ -148,7 +148,6 @@ fn is_plain(options: &SearchOptions<'_>) -> bool
         && options.time == 0
         && !options.shortest
         && options.shard.is_none()
-        && options.looks.reach.is_none()
 }
 
 /// The bounds that options give, with these raises. They ask neither for too many events nor for too much that is

@@ -1,6 +1,5 @@
 use Rattle.std.proofs.Common.{subst, arith}
-use Rattle.brd_blocks.specs.Owning.{sharing_of}
-use Rattle.brd_reach.specs.Rounds.{VisitedSo}
+use Rattle.brd_reach.specs.Rounds.{VisitedSo, sharing_for}
 use Rattle.brd_reach.proofs.RoundLemmas.{done-next, get-more, more-then, there-is}
 use Rattle.brd_reach.proofs.round.visit_all.Goals as goal
 
@@ -22,7 +21,7 @@ returns-in-Fails-clause-so c =
     let here = there-is c.loop-at.places c.loop-at.at (omega (arith, c.if-at-len.false, c.len.ensures)) in (
       here.0,
       get-more c.loop-at.places c.visit.new.places c.loop-at.at here.0 (c.visit.ensures.more here.0 here.1) here.1,
-      subst (VisitedSo (sharing_of c.args.sharing.now) c.args.among.now c.args.wanted.now c.visit.new.places here.0) c.in-Fails.is
+      subst (VisitedSo (sharing_for c.args.sharing.now c.args.wanted.now) c.args.among.now c.args.wanted.now c.visit.new.places here.0) c.in-Fails.is
           (c.in_ok-visit.ensures.so here.0 here.1),
     )
 
@@ -42,8 +41,8 @@ loop-at-preserved c =
     let more = c.visit.ensures.more here.0 here.1 in
     record {
       more = more-then c.args.places.now c.loop-at.places c.visit.new.places c.loop-at.invariant.more more;
-      done = done-next (sharing_of c.args.sharing.now) c.args.among.now c.args.wanted.now c.loop-at.places c.visit.new.places c.loop-at.at here.0
+      done = done-next (sharing_for c.args.sharing.now c.args.wanted.now) c.args.among.now c.args.wanted.now c.loop-at.places c.visit.new.places c.loop-at.at here.0
           c.loop-at.invariant.done more here.1
-          (subst (VisitedSo (sharing_of c.args.sharing.now) c.args.among.now c.args.wanted.now c.visit.new.places here.0) c.in-Done.is
+          (subst (VisitedSo (sharing_for c.args.sharing.now c.args.wanted.now) c.args.among.now c.args.wanted.now c.visit.new.places here.0) c.in-Done.is
           (c.in_ok-visit.ensures.so here.0 here.1));
     }

@@ -1,7 +1,7 @@
 -- What failures watch is shared.
 use Rattle.brd_blocks.specs.Owning.{sharing_of}
-use Rattle.brd_reach.specs.Reaching.{Guards}
+use Rattle.brd_reach.specs.Reaching.{AreGuarded}
 use Rattle.brd_reach.proofs.searching.reach.Given as goal
 
 abbrev pub invariant-loop : goal.invariant-loop
-invariant-loop l = Guards (sharing_of l.sharing) l.wanted
+invariant-loop l = AreGuarded (sharing_of l.sharing) l.wanted.failures

@@ -1,8 +1,7 @@
 use Rattle.std.proofs.Common.{subst}
 use Rattle.std.proofs.lemmas.List.{get_or_default}
 use Rattle.brd_board.specs.declared.event.Event.TheVariants.{Step}
-use Rattle.brd_blocks.specs.Owning.{sharing_of}
-use Rattle.brd_reach.specs.Rounds.{TriedSo}
+use Rattle.brd_reach.specs.Rounds.{TriedSo, sharing_for}
 use Rattle.brd_reach.proofs.RoundLemmas.{at-same, get-more, more-then, tried-next}
 use Rattle.brd_reach.proofs.visit.visit.Goals as goal
 
@@ -39,7 +38,7 @@ returns-in-Fails-clause-so c = λ place there.
     let here = at-same c.loop-event.places c.args.at place c.left-left.result c.in_ok-board.board
     (get-more c.args.places.now c.loop-event.places c.args.at place (c.loop-event.invariant place there).0 there)
     (c.left-left.ensures place there) (c.in_ok-board.ensures place there) in
-    absurd (subst (TriedSo (sharing_of c.args.sharing.now) c.args.among.now c.try_event.new.places c.left-left.result c.in_ok-board.board
+    absurd (subst (TriedSo (sharing_for c.args.sharing.now c.args.wanted.now) c.args.among.now c.try_event.new.places c.left-left.result c.in_ok-board.board
     _) c.in-Fails.is (c.in_ok-try_event.ensures.so c.args.among.now here))
 
 pub loop-event-preserved : goal.loop-event-preserved
@@ -49,10 +48,10 @@ loop-event-preserved c = λ place there.
     (c.left-left.ensures place there) (c.in_ok-board.ensures place there) in
     let more = c.try_event.ensures.more here in (
       more-then c.args.places.now c.loop-event.places c.try_event.new.places (c.loop-event.invariant place there).0 more,
-      tried-next (sharing_of c.args.sharing.now) c.args.among.now c.loop-event.places c.try_event.new.places place c.left-left.result
+      tried-next (sharing_for c.args.sharing.now c.args.wanted.now) c.args.among.now c.loop-event.places c.try_event.new.places place c.left-left.result
           c.in_ok-board.board c.loop-event.event-index _ more (c.left-left.ensures place there) (c.in_ok-board.ensures place there)
           (c.loop-event.invariant place there).1
-          (subst (TriedSo (sharing_of c.args.sharing.now) c.args.among.now c.try_event.new.places c.left-left.result c.in_ok-board.board
+          (subst (TriedSo (sharing_for c.args.sharing.now c.args.wanted.now) c.args.among.now c.try_event.new.places c.left-left.result c.in_ok-board.board
           _) c.in-Done.is (c.in_ok-try_event.ensures.so c.args.among.now here))
           (get_or_default c.args.among.now c.loop-event.event-index (Step 0) _ c.loop-event-test.true) c.loop-event-test.true,
     )
