@@ -176,6 +176,7 @@ abbrev pub AreTryOptions : List Row → TryOptions → Type 0
 AreTryOptions rows options = IsNumberOr 1 (one_of (codes "CPUS") rows) options.cpus
     × IsNumberOr 10000 (one_of (codes "STEPS") rows) options.steps
     × IsNumberOr 0 (one_of (codes "INTERVAL") rows) options.tick_every
+    × IsFlag (one_of (codes "strict") rows) options.strict
 
 -- the request of `try`
 abbrev pub IsTry : List Row → Option Request → Type 0

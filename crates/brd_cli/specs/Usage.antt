@@ -82,7 +82,7 @@ abbrev pub tries : App
 tries = command_with (codes "try")
     (needed (codes "SOURCE") ∷ count (codes "STEPS") (codes "steps") ∷ count (codes "CPUS") (codes "cpus")
     ∷ count (codes "INTERVAL") (codes "tick-every") ∷ option (codes "NAME") (codes "keep")
-    ∷ option (codes "FILE") (codes "page") ∷ data_option ∷ [])
+    ∷ option (codes "FILE") (codes "page") ∷ flag (codes "strict") ∷ data_option ∷ [])
 
 abbrev pub asm : App
 asm = command_with (codes "asm") (map needed source_and_out)

@@ -178,6 +178,7 @@ fn try_options_of(arguments: &ArgMatches) -> TryOptions
         cpus: number_or(arguments, "CPUS", 1),
         steps: number_or(arguments, "STEPS", USUAL_STEPS),
         tick_every,
+        strict: flag_of(arguments, "strict"),
     }
 }
 

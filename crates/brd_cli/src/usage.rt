@@ -10,7 +10,7 @@ use clap::{Arg, ArgAction, Command};
 use std::alloc::Global;
 
 /// The version of the program, and the kit of Rattle that built it.
-const VERSION: &str = "1.0 (rattle-kit-13f)";
+const VERSION: &str = "1.0 (rattle-kit-13b)";
 
 /// What help says of the files.
 const FILES: &str = "\
@@ -238,6 +238,11 @@ fn try_command<'a>(alloc: Global) -> Result<Command<'a>, NoMemory>
             "FILE",
             "page",
             "Where a page for a browser goes, of each step",
+        ))?
+        .arg(flag(
+            alloc,
+            "strict",
+            "Also prints the loads and the stores past a label's data",
         ))?
         .arg(data_option(alloc))?;
     Ok(command)

@@ -7,7 +7,10 @@
 
 mod arrivals;
 mod config;
+mod labels;
+mod made;
 mod options;
+mod past;
 mod summary;
 mod told;
 mod trying;

@@ -9,4 +9,6 @@ pub struct TryOptions {
     pub steps: u32,
     /// Each event whose number is a multiple of this is a tick; none where this is 0.
     pub tick_every: u32,
+    /// Whether loads and stores past a label's data are told too.
+    pub strict: bool,
 }

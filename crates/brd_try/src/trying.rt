@@ -9,6 +9,7 @@ ghost use Rattle.brd_try.specs.Turning.{KeepsFromTurns, TakesTurns};
 
 use crate::config::config_of;
 use crate::options::TryOptions;
+use crate::past::past_of;
 use crate::summary::summary;
 use crate::told::{told, why};
 use crate::turning::{Turned, take_turns};
@@ -56,7 +57,15 @@ pub fn try_object(alloc: Global, object: &[u8], options: TryOptions) -> Result<T
         Err(fault) => return Err(fault),
     };
     let journal = turned.journal.write_text(alloc)?;
-    let told = text_of(alloc, &image, &config, board, cpus, &turned)?;
+    let past = past_of(
+        alloc,
+        options.strict,
+        object,
+        &image,
+        &board,
+        &turned.journal,
+    )?;
+    let told = text_of(alloc, &image, &config, board, cpus, &turned, &past)?;
     Ok(Tried {
         config: text,
         journal,
@@ -127,8 +136,8 @@ fn fault_of(fault: JournalFault) -> CommandFault
     }
 }
 
-/// What is told of a board with n tasks that has taken turns. What stands at the end in words is left out where the
-/// only task has turned the board off.
+/// What is told of a board with n tasks that has taken turns, and of what has gone past a label's data. What stands at
+/// the end in words is left out where the only task has turned the board off.
 fn text_of(
     alloc: Global,
     image: &Image,
@@ -136,6 +145,7 @@ fn text_of(
     boot: Board,
     tasks: u8,
     turned: &Turned,
+    past: &[u8],
 ) -> Result<Vec<u8>, NoMemory>
     ensures { IfOk result (λ text. IsTold tasks turned.now.steps turned.now.board text.items) }
 {
@@ -143,6 +153,7 @@ fn text_of(
     if tasks > 1 || !turned.board.is_off() {
         words = summary(alloc, image, config, boot, turned, tasks)?;
     }
+    words.extend_from_slice(past)?;
     let why = why(
         alloc,
         image.symbols.as_slice(),

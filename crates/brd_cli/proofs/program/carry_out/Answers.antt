@@ -7,7 +7,8 @@ returns-in-Err g c = not_asked c.in-Err.ensures refl refl refl refl
 
 pub returns-in-Ok-perform_with_data : goal.returns-in-Ok-perform_with_data
 returns-in-Ok-perform_with_data g c =
-    asked c.in-Ok.asked (Ok tt) c.in-Ok.ensures (search rules) (rw c.deref-2.ensures.value at c.in-Ok-perform_with_data.ensures) refl
+    asked c.in-Ok.asked (Ok tt) c.in-Ok.ensures (search rules)
+    (rw c.deref-2.ensures.value at c.in-Ok-perform_with_data.ensures) (ap Ok c.page_of.ensures)
 
 pub returns : goal.returns
 returns g c =

@@ -11,10 +11,13 @@ returns c = λ old new adds.
     let with_4 = c.in_ok-arg-4.ensures.shape c.count-3.ensures.own ∙ ap₂ with_rule with_3 c.count-3.ensures.rule in
     let with_5 = c.in_ok-arg-5.ensures.shape c.option.ensures.own ∙ ap₂ with_rule with_4 c.option.ensures.rule in
     let with_6 = c.in_ok-arg-6.ensures.shape c.option-2.ensures.own ∙ ap₂ with_rule with_5 c.option-2.ensures.rule in
-    let with_7 = c.in_ok-command.ensures.shape c.data_option.ensures.own ∙ ap₂ with_rule with_6 c.data_option.ensures.rule in
+    let with_7 = c.in_ok-arg-7.ensures.shape c.flag.ensures.own ∙ ap₂ with_rule with_6 c.flag.ensures.rule in
+    let with_8 = c.in_ok-command.ensures.shape c.data_option.ensures.own ∙ ap₂ with_rule with_7 c.data_option.ensures.rule in
     adds.shape (rw (
       c.in_ok-command.ensures.globals,
       c.data_option.ensures.own,
+      c.in_ok-arg-7.ensures.globals,
+      c.flag.ensures.own,
       c.in_ok-arg-6.ensures.globals,
       c.option-2.ensures.own,
       c.in_ok-arg-5.ensures.globals,
@@ -31,4 +34,4 @@ returns c = λ old new adds.
       c.about.ensures,
       c.new.ensures.local,
     ) refl)
-    ∙ ap (λ (form : App). with_subcommand (app_of old) form.top) with_7
+    ∙ ap (λ (form : App). with_subcommand (app_of old) form.top) with_8
