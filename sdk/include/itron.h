@@ -68,6 +68,23 @@ typedef struct t_rmtx {
     ID htskid;                          /* who has it */
     ID wtskid;                          /* who waits first */
 } T_RMTX;
+typedef struct t_rmpf {
+    ID wtskid;
+    UINT fblkcnt;                       /* how many blocks are there */
+} T_RMPF;
+
+/* What a message of a mailbox begins with; the second one with TA_MPRI. */
+typedef struct t_msg {
+    struct t_msg *pk_next;              /* the kernel here leaves it alone */
+} T_MSG;
+typedef struct t_msg_pri {
+    T_MSG msgque;
+    PRI msgpri;                         /* 1, the highest, to the mailbox's lowest */
+} T_MSG_PRI;
+typedef struct t_rmbx {
+    ID wtskid;
+    T_MSG *pk_msg;                      /* the message that is received next, NULL where none is there */
+} T_RMBX;
 
 #ifndef NULL
 #define NULL ((void *)0)
@@ -111,6 +128,8 @@ typedef struct t_rmtx {
 #define TPRI_INI 0
 #define TMIN_TPRI 1
 #define TMAX_TPRI 16
+#define TMIN_MPRI 1
+#define TMAX_MPRI 16
 #define TMAX_ACTCNT 1
 #define TMAX_WUPCNT 1
 #define TMAX_SUSCNT 1
@@ -133,7 +152,9 @@ typedef struct t_rmtx {
 #define TTW_FLG 0x08u
 #define TTW_SDTQ 0x10u
 #define TTW_RDTQ 0x20u
+#define TTW_MBX 0x40u
 #define TTW_MTX 0x80u
+#define TTW_MPF 0x2000u
 
 #define TWF_ANDW 0u                     /* wai_flg: all of the bits, or any */
 #define TWF_ORW 1u
@@ -150,6 +171,8 @@ typedef struct t_rmtx {
 #define TA_CLR 0x04u
 #define TA_INHERIT 0x02u
 #define TA_CEILING 0x03u
+#define TA_MFIFO 0x00u
+#define TA_MPRI 0x02u
 
 #endif
 #endif

@@ -59,7 +59,10 @@ KERNEL_CALL struct kernel_answer kernel_4(UINT number, UINT a, UINT b, UINT c, U
     KERNEL_SYSCALL("r"(a0), "r"(a1), "r"(a2), "r"(a3));
 }
 
-KERNEL_CALL ER kernel_second(struct kernel_answer answer, UINT *place)
+/* A word of any type, as a pointer that a call answers. */
+typedef UINT __attribute__((may_alias)) KERNEL_WORD;
+
+KERNEL_CALL ER kernel_second(struct kernel_answer answer, KERNEL_WORD *place)
 {
     if (answer.first == E_OK)
         *place = answer.second;
@@ -133,7 +136,7 @@ KERNEL_CALL ER mget_tid(ID *p_tskid, ID prcid) { return kernel_second(kernel_1(7
 KERNEL_CALL ER mrot_rdq(PRI tskpri, ID prcid) { return kernel_2(72, tskpri, prcid).first; }
 
 /* A word a call: so a structure is of one state only where nobody changes it meanwhile. */
-KERNEL_CALL ER kernel_words(UINT number, ID id, UINT *words, UINT count)
+KERNEL_CALL ER kernel_words(UINT number, ID id, KERNEL_WORD *words, UINT count)
 {
     ER error = E_OK;
     for (UINT word = 0; word < count && error == E_OK; word++)
@@ -153,6 +156,28 @@ KERNEL_CALL ER tloc_mtx(ID mtxid, TMO tmout) { return kernel_2(79, mtxid, tmout)
 KERNEL_CALL ER unl_mtx(ID mtxid) { return kernel_1(80, mtxid).first; }
 KERNEL_CALL ER ref_mtx(ID mtxid, T_RMTX *pk_rmtx) { return kernel_words(81, mtxid, (UINT *)pk_rmtx, 2); }
 
+/* Fixed memory pools and mailboxes. The priority of a message is read from it, whether or not the mailbox has TA_MPRI:
+   the word behind a T_MSG has to be in RAM. */
+KERNEL_CALL UINT kernel_priority(T_MSG *pk_msg)
+{
+    __asm__("" : "+r"(pk_msg));         /* (it may be no longer than a T_MSG) */
+    return ((T_MSG_PRI *)pk_msg)->msgpri;
+}
+
+KERNEL_CALL ER get_mpf(ID mpfid, VP *p_blk) { return kernel_second(kernel_1(82, mpfid), (UINT *)p_blk); }
+KERNEL_CALL ER pget_mpf(ID mpfid, VP *p_blk) { return kernel_second(kernel_1(83, mpfid), (UINT *)p_blk); }
+KERNEL_CALL ER tget_mpf(ID mpfid, VP *p_blk, TMO tmout)
+{ return kernel_second(kernel_2(84, mpfid, tmout), (UINT *)p_blk); }
+KERNEL_CALL ER rel_mpf(ID mpfid, VP blk) { return kernel_2(85, mpfid, (UINT)blk).first; }
+KERNEL_CALL ER snd_mbx(ID mbxid, T_MSG *pk_msg)
+{ return kernel_3(86, mbxid, (UINT)pk_msg, kernel_priority(pk_msg)).first; }
+KERNEL_CALL ER rcv_mbx(ID mbxid, T_MSG **ppk_msg) { return kernel_second(kernel_1(88, mbxid), (UINT *)ppk_msg); }
+KERNEL_CALL ER prcv_mbx(ID mbxid, T_MSG **ppk_msg) { return kernel_second(kernel_1(89, mbxid), (UINT *)ppk_msg); }
+KERNEL_CALL ER trcv_mbx(ID mbxid, T_MSG **ppk_msg, TMO tmout)
+{ return kernel_second(kernel_2(90, mbxid, tmout), (UINT *)ppk_msg); }
+KERNEL_CALL ER ref_mpf(ID mpfid, T_RMPF *pk_rmpf) { return kernel_words(91, mpfid, (UINT *)pk_rmpf, 2); }
+KERNEL_CALL ER ref_mbx(ID mbxid, T_RMBX *pk_rmbx) { return kernel_words(92, mbxid, (UINT *)pk_rmbx, 2); }
+
 /* The board's own: a byte to the console, and the end. */
 KERNEL_CALL ER put_chr(char byte) { return kernel_1(40, (UB)byte).first; }
 KERNEL_CALL ER ext_ker(void) { return kernel_0(41).first; }
@@ -169,6 +194,8 @@ KERNEL_CALL ER irot_rdq(PRI tskpri) { return kernel_1(55, tskpri).first; }
 KERNEL_CALL ER iget_tid(ID *p_tskid) { return kernel_second(kernel_0(56), (UINT *)p_tskid); }
 KERNEL_CALL ER imact_tsk(ID tskid, ID prcid) { return kernel_2(57, tskid, prcid).first; }
 KERNEL_CALL ER isig_tim(void) { return kernel_0(115).first; }     /* always E_RSFN: ticks come from outside */
+KERNEL_CALL ER isnd_mbx(ID mbxid, T_MSG *pk_msg)
+{ return kernel_3(87, mbxid, (UINT)pk_msg, kernel_priority(pk_msg)).first; }
 KERNEL_CALL ER iget_pid(ID *p_prcid) { return kernel_second(kernel_0(112), (UINT *)p_prcid); }
 KERNEL_CALL ER ret_int(void) { return kernel_0(58).first; }
 

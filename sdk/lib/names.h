@@ -5,4 +5,7 @@
 #define CRE_FLG(id, ...) @@flag #id
 #define CRE_DTQ(id, ...) @@queue #id
 #define CRE_SPN(id, ...) @@lock #id
+#define CRE_MTX(id, ...) @@mutex #id
+#define CRE_MPF(id, ...) @@pool #id
+#define CRE_MBX(id, ...) @@mailbox #id
 #define DEF_INH(id, ...) @@line #id

@@ -12,9 +12,9 @@ CROSS = os.environ.get("CROSS", "mips-linux-gnu-")
 NUMBER = re.compile(r"0x[0-9a-fA-F]+|0|[1-9][0-9]*")
 # How `trace` calls the objects of each kind of name, and which calls begin with an ID of that kind.
 WORDS = {"task": "task", "semaphore": "semaphore", "event flag": "flag", "data queue": "queue", "lock": "lock",
-         "line": "line", "handler": "line"}
-CALLS = {"sem": "semaphore", "flg": "flag", "dtq": "queue", "spn": "lock", "tsk": "task", "wup": "task", "wai": "task",
-         "act": "task", "pri": "task"}
+         "mutex": "mutex", "pool": "pool", "mailbox": "mailbox", "line": "line", "handler": "line"}
+CALLS = {"sem": "semaphore", "flg": "flag", "dtq": "queue", "spn": "lock", "mtx": "mutex", "mpf": "pool",
+         "mbx": "mailbox", "tsk": "task", "wup": "task", "wai": "task", "act": "task", "pri": "task"}
 NO_ID = ("dly_tsk", "slp_tsk", "tslp_tsk", "ext_tsk")
 NAMED = re.compile(rf"\b({'|'.join(WORDS)}) (\d+)\b|\b(\w+_({'|'.join(CALLS)}))\((\d+)\b")
 # The line of a trace where an assertion doesn't hold (stop.c).
@@ -174,7 +174,7 @@ class Objects:
         if os.path.exists(path) and os.path.exists(config):
             # Both are made of the same text, so they have the same statements in the same order.
             names = re.findall(r'@@(\w+) "((?:[^"\\]|\\.)*)"', self.read(path))
-            numbers = re.findall(r"\b(?:CRE_(?:TSK|SEM|FLG|DTQ|SPN)|DEF_INH)\s*\(\s*(\w+)", self.read(config))
+            numbers = re.findall(r"\b(?:CRE_(?:TSK|SEM|FLG|DTQ|SPN|MTX|MPF|MBX)|DEF_INH)\s*\(\s*(\w+)", self.read(config))
             for (kind, name), number in zip(names, numbers):
                 if len(names) == len(numbers) and name.isidentifier() and NUMBER.fullmatch(number):
                     self.names[kind, int(number, 0)] = name

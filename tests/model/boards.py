@@ -7,7 +7,7 @@ whose calls come more often than the others, so that queues of waiting tasks gro
 import random
 import struct
 
-from kernel import CALLS, Setup, TaskSetup
+from kernel import CALLS, PoolSetup, Setup, TaskSetup, distance
 from machine import RAM_START, ROWS, WORD, encode
 
 DATA = RAM_START + 0x8000
@@ -45,6 +45,11 @@ USES = {
     "ref_tsk": (.5, 2, .1, "task word"), "ref_sem": (.3, .5, .1, "semaphore word"),
     "loc_mtx": (5, 0, .1, "mutex"), "ploc_mtx": (1, 1, .1, "mutex"), "tloc_mtx": (5, .2, .1, "mutex timeout"),
     "unl_mtx": (5, 1, .1, "mutex"), "ref_mtx": (.3, .5, .1, "mutex word"),
+    "get_mpf": (5, 0, .1, "pool"), "pget_mpf": (2, 1, .1, "pool"), "tget_mpf": (5, .2, .1, "pool timeout"),
+    "rel_mpf": (6, 4, .1, "pool block"), "snd_mbx": (4, 4, .1, "mailbox datum rank"),
+    "isnd_mbx": (.1, .1, 3, "mailbox datum rank"), "rcv_mbx": (5, 0, .1, "mailbox"),
+    "prcv_mbx": (1, 1, .1, "mailbox"), "trcv_mbx": (5, .2, .1, "mailbox timeout"),
+    "ref_mpf": (.3, .5, .1, "pool word"), "ref_mbx": (.3, .5, .1, "mailbox word"),
     "ref_flg": (.3, .5, .1, "flag word"), "ref_dtq": (.3, .5, .1, "queue word"), "iget_pid": (.1, .1, .5, ""),
 }
 THEMES = {
@@ -57,6 +62,9 @@ THEMES = {
     "held": "dis_dsp loc_cpu ter_tsk mig_tsk sus_tsk rsm_tsk act_tsk",
     "lock": "loc_spn try_spn unl_spn dis_dsp loc_cpu ter_tsk",
     "mutex": "loc_mtx tloc_mtx ploc_mtx unl_mtx ref_mtx chg_pri get_pri rel_wai ter_tsk sus_tsk rsm_tsk",
+    "pool": "get_mpf tget_mpf pget_mpf rel_mpf ref_mpf chg_pri rel_wai ter_tsk sus_tsk rsm_tsk",
+    "mailbox": "snd_mbx isnd_mbx prcv_mbx ref_mbx chg_pri rel_wai sus_tsk rsm_tsk",
+    "messages": "rcv_mbx trcv_mbx prcv_mbx isnd_mbx ref_mbx chg_pri rel_wai sus_tsk rsm_tsk",
     "profile": "get_tim set_tim sns_loc sns_dsp sns_dpn frsm_tsk mget_tid mrot_rdq ref_tsk ref_sem ref_flg ref_dtq",
 }
 # Loads and stores, and what their addresses have to be multiples of.
@@ -121,7 +129,8 @@ class Maker:
     def shape(self):
         """Which processors, tasks, objects and lines there are."""
         alone = self.often(.25) and self.theme not in ("links", "held", "lock")
-        self.standard = self.theme in ("profile", "mutex") or self.often(.5)
+        of_the_profile = "profile", "mutex", "pool", "mailbox", "messages"
+        self.standard = self.theme in of_the_profile or self.often(.5)
         self.processors = 1 if alone else self.chance(2, 2, 2, 2, 3, 3, 4, 8)
         self.tasks = self.ids(self.random.randrange(4, 11))
         priorities = self.random.sample(range(1, 17), self.random.randrange(2, 6))
@@ -133,12 +142,16 @@ class Maker:
         if self.manager:
             self.priority[self.manager], self.place[self.manager] = self.chance(16, max(priorities)), self.processors
         self.others = [task for task in self.tasks if task != self.manager]
-        count = {"semaphore": 1, "flag": 1, "queue": 1, "receivers": 1, "lock": 1, "mutex": 3}.get(self.theme) or self.chance(0, 1, 1, 2)
+        of_themes = {"mutex": 3} | dict.fromkeys(
+            "semaphore flag queue receivers lock pool mailbox messages".split(), 1)
+        count = of_themes.get(self.theme) or self.chance(0, 1, 1, 2)
         self.semaphores = {key: self.new_semaphore() for key in self.ids(count)}
         self.flags = {key: self.new_flag() for key in self.ids(count)}
         self.queues = {key: (self.often(.6), self.chance(0, 0, 1, 1, 2, 3, 256)) for key in self.ids(count)}
         self.spin_locks = self.ids(count)
         self.mutexes = {key: self.new_mutex() for key in self.ids(count)} if self.standard else {}
+        self.pools = {key: self.new_pool() for key in self.ids(count)} if self.standard else {}
+        self.mailboxes = {key: self.new_mailbox() for key in self.ids(count)} if self.standard else {}
         lines = self.random.sample(range(32), self.random.randrange(5))
         self.lines = {line: self.random.randrange(1, self.processors + 1) for line in lines}
 
@@ -153,6 +166,13 @@ class Maker:
         protocol = self.chance(0, 1, 2, 2, 2, 3)
         return protocol, self.random.randrange(int(protocol == 3), 17)
 
+    def new_pool(self):
+        area = self.chance(None, RAM_START + 0xC000 + 0x100 * self.random.randrange(4))
+        return PoolSetup(self.often(.6), self.chance(1, 1, 2, 2, 3, 5), self.chance(1, 3, 4, 5, 16, 100), area)
+
+    def new_mailbox(self):
+        return self.often(.6), self.often(.6), self.chance(1, 2, 3, 16)
+
     # Calls
 
     def argument(self, kind, caller):
@@ -160,9 +180,13 @@ class Maker:
         if self.often(self.stray / 2):
             return self.chance(0, 0, 2, 17, 255, 256, self.processors + 1, WORD, WORD - 1, 0x80000000, 0x10001)
         known = {"semaphore": self.semaphores, "flag": self.flags, "queue": self.queues,
-                 "lock": self.spin_locks, "mutex": self.mutexes}.get(kind)
+                 "lock": self.spin_locks, "mutex": self.mutexes, "pool": self.pools,
+                 "mailbox": self.mailboxes}.get(kind)
         if known is not None:
             return self.chance(*(known or [1]))
+        # (None is the second result of the call before, which may be the address of a block)
+        blocks = [it.area + number * distance(it) for it in self.pools.values() if it.area
+                  for number in range(it.count)] or [RAM_START]
         if kind in ("task", "other"):
             itself = self.often(.2) and not (kind == "other" and caller == self.manager)
             among = self.tasks if kind == "task" else self.others
@@ -176,15 +200,22 @@ class Maker:
             "kept": lambda: self.chance(0, 0, 1, 0xFFFFFFFE, 0xFFFFFFFC),
             "mode": lambda: self.chance(0, 1),
             "word": lambda: self.chance(0, 0, 1, 1, 2, 3, 4, 5, 6, 7, 8, 9),
+            "block": lambda: self.chance(*[None] * len(blocks), *blocks),
+            "rank": lambda: self.chance(1, 1, 2, 3, 4, self.random.randrange(17)),
             "datum": lambda: self.chance(self.random.randrange(256), self.random.getrandbits(32)),
         }[kind]()
 
     def call(self, code, name, caller, given=()):
         """A service call, sometimes in a delay slot, and something that shows its answers. Gives its arguments."""
-        arguments = given or [self.argument(kind, caller) for kind in USES[name][3].split()]
+        arguments = list(given) or [self.argument(kind, caller) for kind in USES[name][3].split()]
+        if given and name == "rel_mpf":
+            arguments = [given[0], None]
         for register, value in enumerate(arguments, 4):
-            code.set(register, value)
-        code.set(2, NUMBERS.get(name) or self.chance(0, 42, 47, 59, 63, 82, 99, 0x101))
+            if value is None:
+                code.add("ADDU", rs=3, rd=register)
+            else:
+                code.set(register, value)
+        code.set(2, NUMBERS.get(name) or self.chance(0, 42, 47, 59, 63, 93, 99, 0x101))
         if self.often(.08):
             branch = self.chance("BEQ", "BEQ", "BGEZAL", "BNE", "BEQL")
             code.add(branch, immediate=self.random.randrange(1, 4))
@@ -202,8 +233,9 @@ class Maker:
         """A call that a worker (0), a manager (1) or a handler (2) makes; what holds a processor mostly ends soon."""
         name, = self.random.choices(list(USES), self.weights[who])
         arguments = self.call(code, name, caller)
-        end = {"dis_dsp": "ena_dsp", "loc_cpu": "unl_cpu", "loc_spn": "unl_spn", "try_spn": "unl_spn"}.get(name)
-        if end and who < 2 and self.often(.9):
+        end = {"dis_dsp": "ena_dsp", "loc_cpu": "unl_cpu", "loc_spn": "unl_spn", "try_spn": "unl_spn",
+               "get_mpf": "rel_mpf", "pget_mpf": "rel_mpf", "tget_mpf": "rel_mpf"}.get(name)
+        if end and who < 2 and self.often(.5 if end == "rel_mpf" else .9):
             for _ in range(self.random.randrange(4)):
                 self.chance(self.compute, self.calls)(code, who, caller)
             if who == 0 and self.often(.15):
@@ -396,7 +428,7 @@ class Maker:
         data = self.random.getrandbits(8 * 64).to_bytes(64, "big")
         segments = [(self.start, self.code), (DATA, data)]
         self.setup = Setup(self.processors, ram, self.order, segments, tasks, self.semaphores, self.flags, self.queues,
-                           self.spin_locks, lines, self.standard, self.mutexes)
+                           self.spin_locks, lines, self.standard, self.mutexes, self.pools, self.mailboxes)
         bound = [(it.processor, "CRE_TSK(%d, {%d, 0x%x, 0x%x, %d, %d, %s});" % (
             it.id, 2 * it.starts, it.argument, it.address, it.priority, it.size,
             "NULL" if it.stack is None else hex(it.stack))) for it in tasks]
@@ -410,6 +442,10 @@ class Maker:
         text += [f"CRE_DTQ({key}, {{{int(by)}, {capacity}, NULL}});" for key, (by, capacity) in self.queues.items()]
         text += [f"CRE_SPN({key}, {{{self.chance('TA_NULL', 0)}}});" for key in self.spin_locks]
         names = "TA_TFIFO", "TA_TPRI", "TA_INHERIT", "TA_CEILING"
+        text += [f"CRE_MPF({key}, {{{int(it.by_priority)}, {it.count}, {it.size}, "
+                 f"{'NULL' if it.area is None else hex(it.area)}}});" for key, it in self.pools.items()]
+        text += [f"CRE_MBX({key}, {{{by | 2 * by_message}, {priorities}, NULL}});"
+                 for key, (by, by_message, priorities) in self.mailboxes.items()]
         text += [f"CRE_MTX({key}, {{{self.chance(names[protocol], protocol)}, {ceiling}}});"
                  for key, (protocol, ceiling) in self.mutexes.items()]
         self.configuration = "\n".join(text) + "\n"

@@ -35,13 +35,13 @@ import tempfile
 
 sys.dont_write_bytecode = True
 sys.path.insert(0, os.path.dirname(os.path.abspath(__file__)))
-from kernel import Board, Setup, TaskSetup  # noqa: E402 (these are the modules beside this file)
+from kernel import Board, PoolSetup, Setup, TaskSetup  # noqa: E402 (these are the modules beside this file)
 from machine import RAM_START, decode  # noqa: E402
 
 # How many steps each processor takes in a round of the fair end, before a tick passes.
 ROUND = 16
 ATTRIBUTES = {"TA_NULL": 0, "TA_HLNG": 0, "TA_ASM": 1, "TA_ACT": 2, "TA_TFIFO": 0, "TA_TPRI": 1, "TA_WSGL": 0,
-              "TA_WMUL": 2, "TA_CLR": 4, "TA_INHERIT": 2, "TA_CEILING": 3}
+              "TA_WMUL": 2, "TA_CLR": 4, "TA_INHERIT": 2, "TA_CEILING": 3, "TA_MFIFO": 0, "TA_MPRI": 2}
 Bounds = collections.namedtuple("Bounds", "events preemptions ticks raises owed")
 # Where a schedule is, beside its board: what is left of the bounds, whom a step of another processor preempts (0:
 # nobody), the path there (None, or a pair of the path before and an event), and who sleeps, if somebody does.
@@ -360,7 +360,7 @@ def setup_of(text, image):
 
     def value(word):
         return sum({values[it] if it in values else int(it, 0) for it in re.split(r"\s*\|\s*", word.strip())})
-    kinds = {"SEM": {}, "FLG": {}, "DTQ": {}, "SPN": {}, "MTX": {}}
+    kinds = {"SEM": {}, "FLG": {}, "DTQ": {}, "SPN": {}, "MTX": {}, "MPF": {}, "MBX": {}}
     tasks, lines, cpu, standard = [], {}, 1, False
     for name, words, end in re.findall(r"(\w+)\s*\(([^;]*?)\)\s*(?=([;{]))|\}", text):
         words = [it.strip() for it in words.replace("{", " ").replace("}", " ").split(",")]
@@ -378,13 +378,19 @@ def setup_of(text, image):
             key, bits, argument, address, priority, size = map(value, words[:6])
             stack = None if words[6] == "NULL" else value(words[6])
             tasks.append(TaskSetup(key, cpu, bool(bits & 2), argument, address, priority, size, stack))
+        elif name == "CRE_MPF":
+            key, bits, count, size = map(value, words[:4])
+            area = None if words[4] == "NULL" else value(words[4])
+            kinds["MPF"][key] = PoolSetup(bool(bits & 1), count, size, area)
         else:
             key, bits, *rest = [0 if it == "NULL" else value(it) for it in words]
             kinds[name[4:]][key] = {"SEM": (bool(bits & 1), *rest), "DTQ": (bool(bits & 1), *rest[:1]), "SPN": None,
                                     "FLG": (bool(bits & 1), bool(bits & 2), bool(bits & 4), *rest),
-                                    "MTX": (bits, *rest)}[name[4:]]
-    mutexes = kinds.pop("MTX")
-    return Setup(processors, ram, image.order, image.segments, tasks, *kinds.values(), lines, standard, mutexes)
+                                    "MTX": (bits, *rest),
+                                    "MBX": (bool(bits & 1), bool(bits & 2), *rest[:1])}[name[4:]]
+    mutexes, pools, mailboxes = (kinds.pop(it) for it in ("MTX", "MPF", "MBX"))
+    return Setup(processors, ram, image.order, image.segments, tasks, *kinds.values(), lines, standard, mutexes, pools,
+                 mailboxes)
 
 
 def never_of(text, symbols):

@@ -23,9 +23,11 @@ WAYS = [
     ("loc_cpu loc_cpu unl_cpu loc_spn try_spn", "iget_tid"),
     ("dis_dsp dis_dsp ena_dsp rot_rdq chg_pri", "irot_rdq"),
     ("loc_mtx loc_mtx tloc_mtx ploc_mtx ext_tsk ter_tsk act_tsk", "iact_tsk"),
+    ("get_mpf get_mpf tget_mpf pget_mpf rel_mpf", "iget_tid"),
+    ("snd_mbx snd_mbx rcv_mbx trcv_mbx prcv_mbx", "isnd_mbx"),
 ]
 ENDS = {"loc_cpu": "unl_cpu", "dis_dsp": "ena_dsp", "loc_spn": "unl_spn", "try_spn": "unl_spn", "loc_mtx": "unl_mtx",
-        "tloc_mtx": "unl_mtx", "ploc_mtx": "unl_mtx"}
+        "tloc_mtx": "unl_mtx", "ploc_mtx": "unl_mtx", "get_mpf": "rel_mpf", "tget_mpf": "rel_mpf", "pget_mpf": "rel_mpf"}
 
 
 class Handing(Maker):
@@ -54,6 +56,10 @@ class Handing(Maker):
         self.spin_locks = self.spin_locks or [4]
         if number == 10:
             self.standard, self.mutexes = True, self.mutexes or {5: self.new_mutex()}
+        if number == 11:
+            self.standard, self.pools = True, self.pools or {6: self.new_pool()}
+        if number == 12:
+            self.standard, self.mailboxes = True, self.mailboxes or {7: self.new_mailbox()}
         self.words, self.step = self.chance(4, 12, 40, 100), self.chance(0, 16, 64, 64, 64)
         self.flag_words, self.sound, self.base = self.chance(1, 2, 4), self.chance(.3, .6, .9), self.chance(BASE, MOVING)
         if self.suspends:

@@ -2,8 +2,9 @@
 
 The uITRON 4.0 specification says what the calls do; TOPPERS/FMP what mact_tsk, imact_tsk, mig_tsk, get_pid, mget_tid,
 mrot_rdq and those of spin locks do. From where a call may come, the order of its refusals, that a call spins by coming
-again, that calls above 63 are there in the profile alone, that the ref_ calls tell a word each, put_chr, ext_ker,
-ret_int and the events are own choices.
+again, that calls above 63 are there in the profile alone, that the ref_ calls tell a word each, which block of a memory
+pool is handed out, where pools lie, that snd_mbx has the priority as an argument and refuses a 257th message, put_chr,
+ext_ker, ret_int and the events are own choices.
 """
 import collections
 
@@ -13,17 +14,21 @@ E_OK, E_RSFN, E_PAR, E_ID, E_CTX, E_ILUSE = 0, -10, -17, -18, -25, -28
 E_OBJ, E_NOEXS, E_QOVR, E_RLWAI, E_TMOUT = -41, -42, -43, -49, -50
 ANSWERS = {value: name for name, value in list(globals().items()) if name.startswith("E_")}
 CONSOLE_BYTES = 65536
+# How many messages a mailbox keeps.
+MOST_MESSAGES = 256
 TFIFO, TPRI, INHERIT, CEILING = range(4)
 # What a call writes to $v0 and $v1 where it waits or doesn't come back, and where it is just done; and what stands in
 # place of it where the call is to come again.
 SILENT, DONE, AGAIN = (), (E_OK,), ("again",)
 
 # What a board is made of. Objects stand by their IDs, lines by their numbers, tasks in the order of their statements;
-# `standard` where it has the profile, which alone has mutexes.
+# `standard` where it has the profile, which alone has mutexes, memory pools (which lie in the order of their
+# statements) and mailboxes.
 Setup = collections.namedtuple("Setup",
                                "processors ram order segments tasks semaphores flags queues spin_locks lines standard "
-                               "mutexes", defaults=[False, {}])
+                               "mutexes pools mailboxes", defaults=[False, {}, {}, {}])
 TaskSetup = collections.namedtuple("TaskSetup", "id processor starts argument address priority size stack")
+PoolSetup = collections.namedtuple("PoolSetup", "by_priority count size area")
 
 
 class TaskList(list):
@@ -81,6 +86,25 @@ class Mutex:
         return self.protocol == CEILING and priority < self.ceiling
 
 
+class Pool:
+    """A fixed memory pool; `out` has the addresses of the blocks that tasks have."""
+
+    def __init__(self, setup, start):
+        self.blocks = [start + number * distance(setup) for number in range(setup.count)]
+        self.out, self.waiters = set(), TaskList("block", setup.by_priority)
+
+    def there(self):
+        return [address for address in self.blocks if address not in self.out]
+
+
+class Mailbox:
+    """A mailbox; `messages` has their priorities and addresses, the one that is received next first."""
+
+    def __init__(self, by_priority, by_message, priorities):
+        self.by_message, self.priorities, self.messages = by_message, priorities, []
+        self.waiters = TaskList("message", by_priority)
+
+
 class SpinLock:
     """`holder` is the processor that holds it, if one does."""
 
@@ -130,6 +154,8 @@ class Board:
         self.queues = {key: Queue(*it) for key, it in setup.queues.items()}
         self.spin_locks = {key: SpinLock() for key in setup.spin_locks}
         self.mutexes = {key: Mutex(*it) for key, it in sorted(setup.mutexes.items())}
+        self.pools = {key: Pool(it, start) for (key, it), start in zip(setup.pools.items(), areas(setup))}
+        self.mailboxes = {key: Mailbox(*it) for key, it in setup.mailboxes.items()}
         self.lines, self.pending = setup.lines, set()
         self.now, self.off, self.console = 0, False, bytearray()
         # (the system time before the first tick)
@@ -341,6 +367,20 @@ def stacks(setup):
             end -= it.size + 15 & ~15
 
 
+def distance(pool):
+    """How far the blocks of a pool lie from each other."""
+    return pool.size + 3 & ~3
+
+
+def areas(setup):
+    """The address of each pool's first block: those that the configuration leaves open lie below the stacks."""
+    end = RAM_START + setup.ram - sum(it.size + 15 & ~15 for it in setup.tasks if it.stack is None)
+    for it in setup.pools.values():
+        if it.area is None:
+            end -= it.count * distance(it)
+        yield end if it.area is None else it.area
+
+
 def write(context, answer):
     """$v0 takes a call's answer, $v1 its second result; there may be neither."""
     for register, value in zip((2, 3), answer):
@@ -384,7 +424,8 @@ class Request:
             if not 1 <= key <= 255:
                 return E_ID
             objects = {"S": self.board.semaphores, "F": self.board.flags, "Q": self.board.queues,
-                       "L": self.board.spin_locks, "M": self.board.mutexes}
+                       "L": self.board.spin_locks, "M": self.board.mutexes, "P": self.board.pools,
+                       "B": self.board.mailboxes}
             self.object = objects.get(call.names, self.board.tasks).get(key)
         # (a call's timeout is -1, forever, or 0, a poll, or the argument that is named by A and its number)
         self.timeout = signed(self.arguments[int(call.timeout[1])]) if isinstance(call.timeout, str) else call.timeout
@@ -570,6 +611,36 @@ class Request:
         owner = self.object.owner
         return E_OK, [owner.id if owner else 0, first(self.object.waiters)][self.arguments[1]]
 
+    def get_mpf(self):
+        """The block with the lowest address that is there."""
+        there = self.object.there()
+        if not there:
+            return self.wait(self.object.waiters)
+        self.object.out.add(min(there))
+        return E_OK, min(there)
+
+    def rel_mpf(self):
+        """The first waiter has the block, else it is there again."""
+        pool, address = self.object, self.arguments[1]
+        if pool.waiters:
+            self.board.release(pool.waiters[0], E_OK, address)
+        else:
+            pool.out.remove(address)
+
+    def snd_mbx(self):
+        """To the first waiter, else kept: as the last, or before those of lower priority."""
+        mailbox, message = self.object, (self.arguments[2], self.arguments[1])
+        if mailbox.waiters:
+            self.board.release(mailbox.waiters[0], E_OK, self.arguments[1])
+            return
+        lower = [at for at, it in enumerate(mailbox.messages) if mailbox.by_message and it[0] > message[0]]
+        mailbox.messages.insert(lower[0] if lower else len(mailbox.messages), message)
+        self.board.counts["snd_mbx: kept" + (" before others" if lower else "")] += 1
+
+    def rcv_mbx(self):
+        messages = self.object.messages
+        return (E_OK, messages.pop(0)[1]) if messages else self.wait(self.object.waiters)
+
     def put_chr(self):
         self.board.console.append(self.arguments[0] & 255)
 
@@ -595,7 +666,7 @@ class Request:
     def awaited_object(self, task):
         """The ID of the object that a task waits for, 0 where it waits for none."""
         board = self.board
-        for objects in (board.semaphores, board.flags, board.queues, board.mutexes):
+        for objects in (board.semaphores, board.flags, board.queues, board.mutexes, board.pools, board.mailboxes):
             for key, it in objects.items():
                 if any(task.waits_in is value for value in vars(it).values() if isinstance(value, TaskList)):
                     return key
@@ -606,7 +677,7 @@ class Request:
         task, waits_in = self.object, self.object.waits_in
         states = {"ready": 2, "waiting": 4, "suspended": 8, "waiting-suspended": 12, "dormant": 16}
         waits = {"sleep": 1, "delay": 2, "semaphore": 4, "flag": 8, "sender": 16, "receiver": 32,
-                 "mutex": 128}
+                 "message": 64, "mutex": 128, "block": 0x2000}
         runs = self.board.processors[task.processor].running is task
         left = FOREVER if task.due is None else task.due - self.board.now - 1
         return E_OK, [1 if runs else states[task.state], task.priority, task.base,
@@ -623,6 +694,13 @@ class Request:
     def ref_dtq(self):
         queue = self.object
         return E_OK, [first(queue.senders), first(queue.receivers), len(queue.data)][self.arguments[1]]
+
+    def ref_mpf(self):
+        return E_OK, [first(self.object.waiters), len(self.object.there())][self.arguments[1]]
+
+    def ref_mbx(self):
+        messages = self.object.messages
+        return E_OK, [first(self.object.waiters), messages[0][1] if messages else 0][self.arguments[1]]
 
     def ret_int(self):
         self.processor.line = self.processor.handler = None
@@ -655,6 +733,8 @@ BAD_TURN = lambda it: it.arguments[0] > 16
 BAD_TIMEOUT = lambda it: it.timeout < -1
 BAD_TIME = lambda it: it.arguments[0] > 0x7FFFFFFF
 BAD_WISH = lambda it: it.arguments[1] == 0 or it.arguments[2] > 1
+NOT_OUT = lambda it: it.object and it.arguments[1] not in it.object.out
+BAD_MESSAGE = lambda it: it.object and it.object.by_message and not 1 <= it.arguments[2] <= it.object.priorities
 OF_TWO, OF_THREE, OF_NINE = (lambda it, most=most: it.arguments[1] > most for most in (1, 2, 8))
 # Why an object refuses, in the order of a row.
 ITSELF = E_ILUSE, lambda it: it.object is it.caller
@@ -676,10 +756,11 @@ AT_MAXIMUM = E_QOVR, lambda it: not it.object.waiters and it.object.count == it.
 HELD_BY_ANY = E_OBJ, lambda it: it.object.holder
 NOT_HELD_HERE = E_ILUSE, lambda it: it.object.holder is not it.processor
 HOLDS_A_LOCK = E_CTX, lambda it: it.processor.lock
+MAILBOX_FULL = E_QOVR, lambda it: not it.object.waiters and len(it.object.messages) == MOST_MESSAGES
 CONSOLE_FULL = E_QOVR, lambda it: len(it.board.console) == CONSOLE_BYTES
 
 # `names`: what $a0 is the ID of: a task, the caller too by 0 (T0), a semaphore, a flag, a queue, a spin lock (L), a
-# mutex (M), or of nothing.
+# mutex (M), a memory pool (P), a mailbox (B), or of nothing.
 Call = collections.namedtuple("Call", "name place names timeout limits refusals effect")
 CALLS = {
     1: Call("act_tsk", TASK, "T0", None, [], [REQUESTED], Request.activate),
@@ -755,5 +836,16 @@ CALLS = {
     79: Call("tloc_mtx", WAITING, "M", "A1", [BAD_TIMEOUT], [HAS_IT, ABOVE], Request.loc_mtx),
     80: Call("unl_mtx", TASK, "M", None, [], [HAS_IT_NOT], lambda it: it.board.give(it.object)),
     81: Call("ref_mtx", TASK, "M", None, [OF_TWO], [], Request.ref_mtx),
+    82: Call("get_mpf", WAITING, "P", FOREVER, [], [], Request.get_mpf),
+    83: Call("pget_mpf", TASK, "P", POLL, [], [], Request.get_mpf),
+    84: Call("tget_mpf", WAITING, "P", "A1", [BAD_TIMEOUT], [], Request.get_mpf),
+    85: Call("rel_mpf", TASK, "P", None, [NOT_OUT], [], Request.rel_mpf),
+    86: Call("snd_mbx", TASK, "B", None, [BAD_MESSAGE], [MAILBOX_FULL], Request.snd_mbx),
+    87: Call("isnd_mbx", HANDLER, "B", None, [BAD_MESSAGE], [MAILBOX_FULL], Request.snd_mbx),
+    88: Call("rcv_mbx", WAITING, "B", FOREVER, [], [], Request.rcv_mbx),
+    89: Call("prcv_mbx", TASK, "B", POLL, [], [], Request.rcv_mbx),
+    90: Call("trcv_mbx", WAITING, "B", "A1", [BAD_TIMEOUT], [], Request.rcv_mbx),
+    91: Call("ref_mpf", TASK, "P", None, [OF_TWO], [], Request.ref_mpf),
+    92: Call("ref_mbx", TASK, "B", None, [OF_TWO], [], Request.ref_mbx),
     112: Call("iget_pid", HANDLER, "", None, [], [], lambda it: (E_OK, it.processor.number)),
 }

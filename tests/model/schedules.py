@@ -1,5 +1,5 @@
 #!/usr/bin/env python3
-"""Writes the journal that `board journal` is to write, by docs/INSIDE.md, "How journals are drawn".
+"""Writes the journal that `board journal` is to write, by docs/dev/INSIDE.md, "How journals are drawn".
 
   tests/model/schedules.py CPUS EVENTS [--turn N] [--random SEED] [--switch P] [--weights W,..] [--pct D]
       [--tick-every N] [--raise LINE@EVENT,..] [--order big|little]

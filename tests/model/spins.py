@@ -1,4 +1,4 @@
-"""Which processors spin, where, and since when: docs/TRACE.md, "Summary", has the rule. It is an own choice."""
+"""Which processors spin, where, and since when: docs/TRACE.md, "Who spins", has the rule. It is an own choice."""
 import copy
 
 from kernel import Request

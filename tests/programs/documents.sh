@@ -1,6 +1,6 @@
 #!/bin/bash
 # The documents: the commands that they show, a test for each document; their links; what they name; the ways through
-# the code and the picture of the crates of docs/ARCHITECTURE.md.
+# the code and the picture of the crates of docs/dev/ARCHITECTURE.md.
 # tests/programs/documents.sh PROGRAM
 . "$(dirname "$0")/check.sh"
 

@@ -232,6 +232,84 @@ while IFS='|' read -r source config words told how; do
     esac
 done < $examples/cases
 
+# ---- Who comes to an instruction, without bounds: somebody comes to a label where somebody does within bounds, and the
+# journal leads there.
+
+# reaches NAME CONFIG LABEL OPTION..: whether somebody comes to the label, the same with bounds and without.
+reaches() {
+    local name=$1 config=$2 label=$3 wrong= got
+    shift 3
+    rm -f "$work/found"
+    explores "$image" "$config" --reach "$label" "$@" --places 100000 --out "$work/found"
+    got=$?
+    if [ $got = 5 ]; then
+        [ "$(cat "$work/err")" = "board: a schedule fails" ] || wrong="; standard error is '$(head -c 300 "$work/err")'"
+        grep -qE "^fails after [0-9]+ events?: processor [0-9] is at $label\$" "$work/out" ||
+            wrong="$wrong; it says '$(head -n 1 "$work/out")'"
+        "$board" shrink "$image" "$config" "$work/found" --reach "$label" > "$work/left" ||
+            wrong="$wrong; its journal doesn't come there"
+    else
+        wrong=$(holds $got)
+        [ "$(sed -n 2p "$work/out")" = "looked for: a processor at $label" ] ||
+            wrong="$wrong; it looks for $(sed -n 2p "$work/out")"
+    fi
+    explores "$image" "$config" --reach "$label" "$@" --events 60 --preemptions 3
+    [ $? = $got ] || wrong="$wrong; without bounds the status is $got, and within them another one"
+    [ "$wanted" = both ] || [ "$wanted" = $got ] || wrong="$wrong; the status is $got, wanted $wanted"
+    verdict "explore: $name, who comes to $label" "$wrong"
+}
+
+# labels SOURCE: those of a source.
+labels() {
+    sed -n 's/^\([a-z_]*\):.*/\1/p' "$1"
+}
+
+wanted=both
+for source in wakeup.s wakeup_right.s deadlock.s inversion.s; do
+    assembled $source
+    config=${source%.s}
+    ticks=0
+    [ $source = inversion.s ] && ticks=2        # its tasks wait for ticks, so without any it comes to no end
+    for label in $(labels $examples/$source); do
+        reaches $source "$examples/${config%_right}.cfg" "$label" --ticks $ticks
+    done
+done
+for source in interrupt.s interrupt_right.s; do
+    assembled $source
+    for label in $(labels $examples/$source); do
+        reaches $source $examples/interrupt.cfg "$label" --raises 1 --lines 3
+    done
+done
+
+# adders LINE..: two tasks add 1 to a word, by these lines; who of them is done last comes to `lost` if it isn't 2.
+adders() {
+    printf '%s\n' '        .equ    ext_tsk, 3' 'count:  .word   0' 'done:   .word   0' 'main:   lui     $s0, %hi(count)' "$@"
+    cat << 'END'
+add:    ll      $t1, %lo(done)($s0)
+        addiu   $t1, $t1, 1
+        addu    $t2, $t1, $0
+        sc      $t1, %lo(done)($s0)
+        beqz    $t1, add
+        addiu   $t3, $0, 2
+        bne     $t2, $t3, end
+        nop
+        lw      $t0, %lo(count)($s0)
+        beq     $t0, $t3, end
+        nop
+lost:   nop
+end:    addiu   $v0, $0, ext_tsk
+        syscall
+END
+}
+image=$work/adders.elf
+adders '        lw      $t0, %lo(count)($s0)' '        addiu   $t0, $t0, 1' '        sw      $t0, %lo(count)($s0)' > "$work/adders.s"
+"$board" asm "$work/adders.s" "$image"
+wanted=5 reaches "two tasks that add" $examples/lost_update.cfg lost
+adders 'again:  ll      $t0, %lo(count)($s0)' '        addiu   $t0, $t0, 1' '        sc      $t0, %lo(count)($s0)' \
+    '        beqz    $t0, again' '        nop' > "$work/adders.s"
+"$board" asm "$work/adders.s" "$image"
+wanted=0 reaches "two tasks that add by LL and SC" $examples/lost_update.cfg lost
+
 # ---- The consoles of all ends: those of the race, each with its schedule; of the repaired program the right one.
 
 ends() {
@@ -479,7 +557,7 @@ done
 refuses "--events is a number from 0 to 1,000,000" --events 1000001
 refuses "--fair is a number of rounds from 0 to 20,000" --fair 20001
 for option in "--fair 1" "--remember 1" "--shard 1/1" --shortest "--time 1"; do
-    refuses "--places goes with none of --fair, --reach, --remember, --shard, --shortest and --time" --places 10 $option
+    refuses "--places goes with none of --fair, --remember, --shard, --shortest and --time" --places 10 $option
 done
 refuses "not known: there are more than --places places" --places 1
 refuses "--livelock and --finals go with --places" --livelock
@@ -570,6 +648,7 @@ fi
 if have python3 "searches beside the model"; then
     check_script "searches beside the model" tests/model/searches "$board" --boards 60
     check_script "searches without bounds beside the model" tests/model/endless "$board" --small --boards 60
+    check_script "who comes to instructions, beside the model" tests/model/endless "$board" --small --reach --boards 40
 fi
 
 summary

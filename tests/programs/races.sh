@@ -16,6 +16,7 @@ deadlock/deadlock 0
 fault/fault 2
 hello/hello 0
 interrupt/interrupt 0
+mailbox/mailbox 0
 priority_inversion/inversion 0
 recorded_race/counter 1
 spin_lock/spin_lock 0

@@ -102,6 +102,84 @@ main:   addiu   $v0, $0, 16
 END
 tells "a task that waits" "task 1 waiting since event 1, .*, slp_tsk\\(\\) waits for a wake-up" "$work/waits.s"
 
+# --strict: what goes past a label's data, by pointers, indexes and offsets, and what only seems to.
+past="past a label's data:"
+cat > "$work/past.s" << 'END'
+main:   lui     $t0, %hi(samples)
+        addiu   $t0, $t0, %lo(samples)
+        addiu   $t1, $t0, 32
+mark:   sw      $t2, 0($t0)             # marks nine words of eight
+        sltu    $t3, $t0, $t1
+        bnez    $t3, mark
+        addiu   $t0, $t0, 4
+        addiu   $t1, $0, 0
+next:   lui     $t0, %hi(text)
+        addu    $t0, $t0, $t1
+        lbu     $a0, %lo(text)($t0)     # loads eight bytes of six
+        addiu   $t1, $t1, 1
+        slti    $t2, $t1, 8
+        bnez    $t2, next
+        nop
+        lui     $t3, %hi(last)
+        ori     $t3, $t3, %lo(last)
+        move    $t4, $t3
+        lh      $t5, 3($t4)             # is an exception, and so never done
+        addiu   $v0, $0, 41
+        syscall
+samples: .word  65, 66, 67, 68, 69, 70, 71, 72
+chosen: .word   samples
+text:   .asciiz "hello"
+count:  .byte   3
+        .align  2
+last:   .word   5
+END
+# shellcheck disable=SC2016
+for line in 'task 1 at mark (8000000c), event 35: sw $t2, 0($t0) stores 4 bytes at offset 32 of samples, which has 32 '\
+'bytes: chosen (80000074) lies there' \
+    'task 1 at next+0x8 (80000028), event 84: lbu $a0, 120($t0) loads 1 byte at offset 6 of text, which has 6 bytes: '\
+'count (8000007e) lies there, and 1 time after it'; do
+    tells "what goes past a label's data" "$(sed 's/[$()+]/\\&/g' <<< "$past $line")" --strict "$work/past.s"
+done
+"$board" try "$work/past.s" > "$work/out" 2> "$work/err"
+verdict "try: nothing of that without --strict" "$(grep "$past" "$work/out")"
+cat > "$work/quiet.s" << 'END'
+main:   lui     $t0, %hi(end)           # from the next label backwards, and to another label by the distance of two
+        addiu   $t0, $t0, %lo(end)
+        lui     $t1, %hi(one)
+        ori     $t1, $t1, %lo(one)
+        lui     $t2, %hi(two)
+        addiu   $t2, $t2, %lo(two)
+        subu    $t3, $t2, $t1
+back:   addiu   $t0, $t0, -4
+        lw      $t4, 0($t0)
+        addu    $t5, $t1, $t3
+        sw      $t4, 0($t5)
+        addiu   $t1, $t1, 4
+        bne     $t1, $t2, back
+        nop
+        addiu   $v0, $0, 41
+        syscall
+one:    .word   1, 2, 3
+two:    .word   4, 5, 6
+end:    .word   7
+END
+tells "nothing goes past a label's data" "$past none seen" --strict "$work/quiet.s"
+cat > "$work/edge.s" << 'END'
+main:   lui     $t0, %hi(last)
+        addiu   $s0, $t0, %lo(last)
+        sub     $t2, $s0, $a0
+        lb      $t3, 6($t2)
+        addiu   $v0, $0, 3
+        syscall
+last:   .word   5
+END
+# shellcheck disable=SC2016
+tells "past all that is loaded" "$past task 1 at main\+0xc .*, event 6: lb .* at offset 5 of last, which has 4 bytes: \
+nothing of the program lies there, and 1 time after it" --strict --cpus 2 "$work/edge.s"
+"$board" asm "$work/edge.s" "$work/edge.elf"
+printf '\0' >> "$work/edge.elf"
+tells "what asm didn't write" "$past not looked for, as board asm didn't write this object file" --strict "$work/edge.elf"
+
 # Mistakes: the first is told as `asm` tells it, and then those behind it, each once, 20 at most.
 cat > "$work/mistakes.s" << 'END'
         .equ    five, 5

@@ -1,4 +1,4 @@
-//! Prints what boards do. Standard input has rows (docs/GATE.md, "Rows") of firmware and events, and is printed,
+//! Prints what boards do. Standard input has rows (docs/dev/GATE.md, "Rows") of firmware and events, and is printed,
 //! without source and configuration, with what each board shows:
 //!
 //! - `= NAME` begins anew, without source and configuration;

@@ -1,5 +1,5 @@
-//! Tries the rows on standard input (docs/GATE.md, "Rows"): prints those that are answered otherwise than they say, and
-//! how many there are. What a scene has said holds up to the next one.
+//! Tries the rows on standard input (docs/dev/GATE.md, "Rows"): prints those that are answered otherwise than they say,
+//! and how many there are. What a scene has said holds up to the next one.
 //!
 //! - `= NAME` begins a scene;
 //! - `front TEXT` is what stands before the text of each configuration;

@@ -1,6 +1,6 @@
 //! Lets stations do steps, ticks, interrupts and leases, and races, for two tests. One refuses each growth: then
 //! station and share are as they were, and what was refused is done; a race, which gives its station up, is begun anew.
-//! The other counts how often memory is asked for. Standard input has rows (docs/GATE.md, "Rows"). What is printed
+//! The other counts how often memory is asked for. Standard input has rows (docs/dev/GATE.md, "Rows"). What is printed
 //! doesn't depend on the schedule.
 //!
 //! - `race N` reads a script, and lets a station do each event n times, and a race;

@@ -1,4 +1,4 @@
-//! Rows, which programs read from their file `stdin` (docs/GATE.md, "Rows").
+//! Rows, which programs read from their file `stdin` (docs/dev/GATE.md, "Rows").
 
 use brd_text::hex_value;
 use std::alloc::{AllocError, Global};

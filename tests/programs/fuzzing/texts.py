@@ -85,6 +85,10 @@ class Texts:
             f"CRE_SPN({number}, {{{self.among('TA_NULL', 'TA_NULL', '0')}}});",
             f"CRE_MTX({number}, {{{self.among('TA_TFIFO', 'TA_TPRI', 'TA_INHERIT', 'TA_CEILING')}, "
             f"{random.randrange(1, 17)}}});",
+            f"CRE_MPF({number}, {{{order}, {random.randrange(1, 5)}, {self.among(1, 5, 64)}, "
+            f"{self.among('NULL', 'NULL', '0x80004000', start)}}});",
+            f"CRE_MBX({number}, {{{self.attributes('TA_TPRI', 'TA_MFIFO', 'TA_MPRI')}, {random.randrange(1, 17)}, "
+            f"NULL}});",
             f"DEF_INH({random.randrange(32)}, {{TA_HLNG, {start}}});")
 
     def configuration(self):

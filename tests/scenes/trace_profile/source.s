@@ -91,7 +91,7 @@ first:  addiu   $a0, $0, 0
         addiu   $a1, $0, 2
         addiu   $v0, $0, 76
         syscall                         # ref_dtq: what is stored
-        addiu   $v0, $0, 82
+        addiu   $v0, $0, 121
         syscall                         # no such call
         addiu   $v0, $0, 3
         syscall                         # ext_tsk

@@ -2,6 +2,7 @@
 
 mod changed;
 mod many;
+mod profile;
 mod values;
 
 /// A text with a statement of every kind, comments of both forms, and numbers of both.

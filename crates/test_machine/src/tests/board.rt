@@ -5,7 +5,7 @@ use std::alloc::Global;
 use std::test::Fail;
 
 // Each function that owns a board is short and leads to few ends, and those that look at one borrow it
-// (docs/DECISIONS.md, "Forms of code that the kit refuses"). What events do is told by the scenes of crates/rows_board.
+// (docs/dev/DECISIONS.md, "Forms of code that the kit refuses"). The scenes of crates/rows_board say what events do.
 
 /// What a test does with a board of words.
 #[derive(Clone, Copy)]

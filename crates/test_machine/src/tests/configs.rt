@@ -2,8 +2,10 @@
 
 use bitflags::Flags as Bits;
 use brd_config::{
-    FlagAttributes, FlagConfig, QueueAttributes, QueueConfig, SemaphoreAttributes, SemaphoreConfig,
+    FlagAttributes, FlagConfig, MailboxAttributes, MailboxConfig, PoolAttributes, QueueAttributes,
+    QueueConfig, SemaphoreAttributes, SemaphoreConfig,
 };
+use brd_objects::PoolSetup;
 use brd_tasks::TaskSetup;
 
 /// Where each task begins.
@@ -43,5 +45,24 @@ pub fn queue(id: u16, attributes: u32, capacity: u16) -> QueueConfig {
         id,
         attributes: QueueAttributes::from_bits_retain(attributes),
         capacity,
+    }
+}
+
+/// A memory pool whose blocks lie eight bytes apart.
+pub fn pool(id: u16, attributes: u32, count: u16, start: u32) -> PoolSetup {
+    PoolSetup {
+        id,
+        attributes: PoolAttributes::from_bits_retain(attributes),
+        count,
+        distance: 8,
+        start,
+    }
+}
+
+pub fn mailbox(id: u16, attributes: u32, priorities: u8) -> MailboxConfig {
+    MailboxConfig {
+        id,
+        attributes: MailboxAttributes::from_bits_retain(attributes),
+        priorities,
     }
 }

@@ -1,4 +1,4 @@
-use super::configs::{flag, queue, semaphore, setup};
+use super::configs::{flag, mailbox, pool, queue, semaphore, setup};
 use brd_base::NoMemory;
 use brd_config::{FlagConfig, MutexConfig, Protocol, QueueConfig, SemaphoreConfig, SpinLockConfig};
 use brd_kernel::{
@@ -8,7 +8,8 @@ use brd_tasks::are_setups;
 use std::alloc::Global;
 
 /// A kernel of two processors with these objects, with spin locks 1 and 255, with mutexes 1 and 2 (TA_INHERIT) and 3
-/// (TA_CEILING, 4), of which these tasks have been started.
+/// (TA_CEILING, 4), with memory pools 1 (two blocks) and 2 (TA_TPRI, one block), with mailboxes 1 and 2 (TA_TPRI,
+/// TA_MPRI, of three priorities), of which these tasks have been started.
 /// Tasks 1 and 2 are of processor 1 and of priorities 2 and 3, tasks 3 and 4 of processor 2 and of priorities 5 and 9.
 fn of_four(
     alloc: Global,
@@ -43,6 +44,8 @@ fn of_four(
         queues,
         &locks,
         &mutexes,
+        &[pool(1, 0, 2, FIRST), pool(2, 1, 1, ALONE)],
+        &[mailbox(1, 0, 1), mailbox(2, 3, 3)],
     )?;
     for id in started {
         kernel.start(*id);
@@ -59,6 +62,13 @@ fn mutex(id: u16, protocol: Protocol, ceiling: u8) -> MutexConfig {
         ceiling,
     }
 }
+
+/// The blocks of memory pool 1, and that of memory pool 2.
+const FIRST: u32 = 0x8000_8000;
+
+const SECOND: u32 = 0x8000_8008;
+
+const ALONE: u32 = 0x8000_9000;
 
 /// A kernel of which tasks 2 and 4 run.
 fn of_mutexes(alloc: Global) -> Result<Kernel, NoMemory> {
@@ -167,6 +177,8 @@ enum Scene {
     Objects,
     Calls,
     Mutexes,
+    Pools,
+    Mailboxes,
     Faults,
     NoLines,
 }
@@ -177,7 +189,7 @@ fn made(alloc: Global, scene: Scene) -> Result<Kernel, NoMemory> {
         Scene::OneProcessor => with_lines(alloc, false),
         Scene::EightProcessors => with_lines(alloc, true),
         Scene::OfObjects | Scene::Objects => with_objects(alloc),
-        Scene::Mutexes => of_mutexes(alloc),
+        Scene::Mutexes | Scene::Pools | Scene::Mailboxes => of_mutexes(alloc),
         _ => two(alloc),
     }
 }
@@ -204,6 +216,8 @@ fn does(kernel: &mut Kernel, scene: Scene) -> bool {
         Scene::Objects => first_other(kernel, CALLS_OF_OBJECTS).is_none(),
         Scene::Calls => serves_calls(kernel),
         Scene::Mutexes => lifts(kernel),
+        Scene::Pools => first_other(kernel, CALLS_OF_POOLS).is_none(),
+        Scene::Mailboxes => hands_messages_on(kernel),
         Scene::Faults => end_by_faults(kernel),
         Scene::NoLines => has_no_lines(kernel),
     }
@@ -452,6 +466,120 @@ fn mutexes(rt: HostRuntime) {
     assert!(rt; goes_well(rt.alloc(), Scene::Mutexes));
 }
 
+const CALLS_OF_POOLS: &[Served] = &[
+    // The block with the lowest address comes first, and who finds none waits.
+    (1, Call::TgetMpf(1, POLL), Reply::Answer(0, Some(FIRST)), 0),
+    (
+        2,
+        Call::TgetMpf(1, FOREVER),
+        Reply::Answer(0, Some(SECOND)),
+        0,
+    ),
+    (1, Call::TgetMpf(256, BAD), ID, 0),
+    (1, Call::TgetMpf(9, BAD), PAR, 0),
+    (1, Call::TgetMpf(9, FOREVER), NOEXS, 0),
+    (1, Call::TgetMpf(1, POLL), TMOUT, 0),
+    (1, Call::TgetMpf(1, FOREVER), Reply::Silent, 1),
+    (2, Call::RefTsk(2, 3), Reply::Answer(0, Some(0x2000)), 0),
+    (2, Call::RefTsk(2, 4), Reply::Answer(0, Some(1)), 0),
+    (2, Call::RefMpf(1, 0), Reply::Answer(0, Some(2)), 0),
+    (2, Call::RefMpf(1, 1), Reply::Answer(0, Some(0)), 0),
+    (2, Call::RefMpf(9, 2), PAR, 0),
+    (2, Call::RefMpf(9, 1), NOEXS, 0),
+    // No block begins there, or it isn't out; what comes back is the waiter's.
+    (2, Call::RelMpf(1, FIRST + 4), PAR, 0),
+    (2, Call::RelMpf(2, ALONE), PAR, 0),
+    (2, Call::RelMpf(2, FIRST), PAR, 0),
+    (2, Call::RelMpf(9, FIRST), NOEXS, 0),
+    (2, Call::RelMpf(256, FIRST), ID, 0),
+    (2, Call::RelMpf(1, FIRST), OK, 1),
+    (1, Call::RefMpf(1, 1), Reply::Answer(0, Some(0)), 0),
+    (1, Call::RelMpf(1, SECOND), OK, 0),
+    (1, Call::RelMpf(1, SECOND), PAR, 0),
+    (1, Call::RefMpf(1, 0), Reply::Answer(0, Some(0)), 0),
+    (1, Call::RefMpf(1, 1), Reply::Answer(0, Some(1)), 0),
+    (1, Call::TgetMpf(1, POLL), Reply::Answer(0, Some(SECOND)), 0),
+    // By priority, task 3 waits in front of task 4.
+    (1, Call::TgetMpf(2, POLL), Reply::Answer(0, Some(ALONE)), 0),
+    (2, Call::TgetMpf(2, FOREVER), Reply::Silent, 2),
+    (1, Call::ActTsk(3), OK, 2),
+    (2, Call::TgetMpf(2, FOREVER), Reply::Silent, 2),
+    (1, Call::RefMpf(2, 0), Reply::Answer(0, Some(3)), 0),
+    (1, Call::RelMpf(2, ALONE), OK, 2),
+    (1, Call::RefMpf(2, 0), Reply::Answer(0, Some(4)), 0),
+];
+
+/// Calls on memory pools: which block is handed out, and who has one that comes back.
+#[test]
+fn pools(rt: HostRuntime) {
+    assert!(rt; goes_well(rt.alloc(), Scene::Pools));
+}
+
+const CALLS_OF_MAILBOXES: &[Served] = &[
+    (1, Call::TrcvMbx(256, BAD), ID, 0),
+    (1, Call::TrcvMbx(9, BAD), PAR, 0),
+    (1, Call::TrcvMbx(9, FOREVER), NOEXS, 0),
+    (1, Call::TrcvMbx(1, POLL), TMOUT, 0),
+    // By arrival, of any priority.
+    (1, Call::SndMbx(1, 10, 99), OK, 0),
+    (1, Call::SndMbx(1, 20, 0), OK, 0),
+    (2, Call::RefMbx(1, 0), Reply::Answer(0, Some(0)), 0),
+    (2, Call::RefMbx(1, 1), Reply::Answer(0, Some(10)), 0),
+    (2, Call::TrcvMbx(1, POLL), Reply::Answer(0, Some(10)), 0),
+    (2, Call::TrcvMbx(1, FOREVER), Reply::Answer(0, Some(20)), 0),
+    // By priority, after those of the same one.
+    (1, Call::SndMbx(0, 10, 0), ID, 0),
+    (1, Call::SndMbx(2, 10, 0), PAR, 0),
+    (1, Call::SndMbx(2, 10, 4), PAR, 0),
+    (1, Call::SndMbx(2, 10, 257), PAR, 0),
+    (1, Call::SndMbx(9, 10, 0), NOEXS, 0),
+    (1, Call::SndMbx(2, 10, 2), OK, 0),
+    (1, Call::SndMbx(2, 20, 3), OK, 0),
+    (1, Call::SndMbx(2, 30, 2), OK, 0),
+    (1, Call::SndMbx(2, 40, 1), OK, 0),
+    (2, Call::TrcvMbx(2, POLL), Reply::Answer(0, Some(40)), 0),
+    (2, Call::TrcvMbx(2, POLL), Reply::Answer(0, Some(10)), 0),
+    (2, Call::TrcvMbx(2, POLL), Reply::Answer(0, Some(30)), 0),
+    (2, Call::TrcvMbx(2, POLL), Reply::Answer(0, Some(20)), 0),
+    // Task 4 waits for one, and is given it.
+    (2, Call::TrcvMbx(2, FOREVER), Reply::Silent, 2),
+    (1, Call::RefTsk(4, 3), Reply::Answer(0, Some(64)), 0),
+    (1, Call::RefTsk(4, 4), Reply::Answer(0, Some(2)), 0),
+    (1, Call::RefMbx(2, 0), Reply::Answer(0, Some(4)), 0),
+    (1, Call::RefMbx(9, 2), PAR, 0),
+    (1, Call::RefMbx(9, 1), NOEXS, 0),
+    (1, Call::SndMbx(2, 50, 3), OK, 2),
+    (1, Call::RefMbx(2, 0), Reply::Answer(0, Some(0)), 0),
+    (1, Call::RefMbx(2, 1), Reply::Answer(0, Some(0)), 0),
+];
+
+/// Whether messages are handed on, until there is no room for one more.
+fn hands_messages_on(kernel: &mut Kernel) -> bool {
+    if first_other(kernel, CALLS_OF_MAILBOXES).is_some() {
+        return false;
+    }
+    for n in 0..256u32 {
+        if !serves(kernel, 1, Call::SndMbx(1, n, 1), OK, 0) {
+            return false;
+        }
+    }
+    serves(kernel, 1, Call::SndMbx(1, 256, 1), QOVR, 0)
+        && serves(
+            kernel,
+            2,
+            Call::TrcvMbx(1, POLL),
+            Reply::Answer(0, Some(0)),
+            0,
+        )
+        && serves(kernel, 1, Call::SndMbx(1, 256, 1), OK, 0)
+}
+
+/// Calls on mailboxes: in which order messages are received, and who has one that is waited for.
+#[test]
+fn mailboxes(rt: HostRuntime) {
+    assert!(rt; goes_well(rt.alloc(), Scene::Mailboxes));
+}
+
 /// A kernel of eight processors, each idle, whose 32 lines all have handlers: on processor 1, or on each processor in
 /// turn.
 fn with_lines(alloc: Global, in_turn: bool) -> Result<Kernel, NoMemory> {
@@ -466,7 +594,20 @@ fn with_lines(alloc: Global, in_turn: bool) -> Result<Kernel, NoMemory> {
             lines[n].handler.cpu = 1 + n as u8 % 8;
         }
     }
-    Kernel::new(alloc, false, 8, &[], &lines, &[], &[], &[], &[], &[])
+    Kernel::new(
+        alloc,
+        false,
+        8,
+        &[],
+        &lines,
+        &[],
+        &[],
+        &[],
+        &[],
+        &[],
+        &[],
+        &[],
+    )
 }
 
 /// Whether a processor accepts the interrupt of a line, and no other until its handler has ended.

@@ -144,6 +144,17 @@ const PROFILE_NUMBERS: &[(u32, Places, Named)] = &[
     (79, WAITS, ("tloc_mtx", [11, 22, 0, 0])),
     (80, TASKS, ("unl_mtx", [11, 0, 0, 0])),
     (81, TASKS, ("ref_mtx", [11, 22, 0, 0])),
+    (82, WAITS, ("tget_mpf", [11, FOREVER, 0, 0])),
+    (83, TASKS, ("tget_mpf", [11, 0, 0, 0])),
+    (84, WAITS, ("tget_mpf", [11, 22, 0, 0])),
+    (85, TASKS, ("rel_mpf", [11, 22, 0, 0])),
+    (86, TASKS, ("snd_mbx", [11, 22, 33, 0])),
+    (87, HANDLERS, ("snd_mbx", [11, 22, 33, 0])),
+    (88, WAITS, ("trcv_mbx", [11, FOREVER, 0, 0])),
+    (89, TASKS, ("trcv_mbx", [11, 0, 0, 0])),
+    (90, WAITS, ("trcv_mbx", [11, 22, 0, 0])),
+    (91, TASKS, ("ref_mpf", [11, 22, 0, 0])),
+    (92, TASKS, ("ref_mbx", [11, 22, 0, 0])),
     (112, HANDLERS, ("get_pid", [0, 0, 0, 0])),
 ];
 
@@ -213,6 +224,12 @@ fn name_of(call: Call) -> &'static str {
         Call::TlocMtx(_, _) => "tloc_mtx",
         Call::UnlMtx(_) => "unl_mtx",
         Call::RefMtx(_, _) => "ref_mtx",
+        Call::TgetMpf(_, _) => "tget_mpf",
+        Call::RelMpf(_, _) => "rel_mpf",
+        Call::SndMbx(_, _, _) => "snd_mbx",
+        Call::TrcvMbx(_, _) => "trcv_mbx",
+        Call::RefMpf(_, _) => "ref_mpf",
+        Call::RefMbx(_, _) => "ref_mbx",
     }
 }
 
@@ -257,8 +274,15 @@ fn arguments_of(call: Call) -> [u32; 4] {
         | Call::RefDtq(first, second)
         | Call::TlocMtx(first, second)
         | Call::RefMtx(first, second)
+        | Call::TgetMpf(first, second)
+        | Call::RelMpf(first, second)
+        | Call::TrcvMbx(first, second)
+        | Call::RefMpf(first, second)
+        | Call::RefMbx(first, second)
         | Call::TrcvDtq(first, second) => [first, second, 0, 0],
-        Call::TsndDtq(first, second, third) => [first, second, third, 0],
+        Call::TsndDtq(first, second, third) | Call::SndMbx(first, second, third) => {
+            [first, second, third, 0]
+        }
         Call::TwaiFlg(first, second, third, fourth) => [first, second, third, fourth],
         _ => [0; 4],
     }
@@ -304,7 +328,7 @@ const NO_NUMBERS: &[u32] = &[
     47,
     59,
     63,
-    82,
+    93,
     99,
     115,
     0x101,

@@ -14,10 +14,14 @@
 static struct {
     const char *call;
     INT answer;
-} handled[8];
+} handled[9];
 static INT calls;
 
 #define HANDLED(it) (handled[calls].call = #it, handled[calls].answer = (INT)(it), calls++)
+
+static T_MSG_PRI high = { .msgpri = 1 };
+static T_MSG_PRI low = { .msgpri = 4 };
+static T_MSG_PRI below_all = { .msgpri = 5 };
 
 void handler(INHNO line)
 {
@@ -31,6 +35,7 @@ void handler(INHNO line)
     HANDLED(sns_dpn());
     HANDLED(get_tim(&time));
     HANDLED(isig_tim());
+    HANDLED(isnd_mbx(ONE, &low.msgque));
     HANDLED(iwup_tsk(MAIN));
 }
 
@@ -142,18 +147,56 @@ static void mutexes(void)
     task(TSK_SELF);
 }
 
+static void pools(void)
+{
+    VP first;
+    VP second;
+    VP none;
+    T_RMPF pool;
+    SAY(get_mpf(ONE, &first));
+    SAY(pget_mpf(ONE, &second));
+    SAY((UB *)second - (UB *)first);
+    SAY(tget_mpf(ONE, &none, TMO_POL));
+    SAY(rel_mpf(ONE, first));
+    SAY(rel_mpf(ONE, first));
+    SAY(ref_mpf(ONE, &pool));
+    printf("%d waits, %d are there\n", pool.wtskid, pool.fblkcnt);
+}
+
+static void mailboxes(void)
+{
+    T_MSG *got;
+    T_RMBX mailbox;
+    SAY(snd_mbx(ONE, &low.msgque));
+    SAY(snd_mbx(ONE, &high.msgque));
+    SAY(snd_mbx(ONE, &below_all.msgque));
+    SAY(ref_mbx(ONE, &mailbox));
+    SAY(mailbox.pk_msg == &high.msgque);
+    SAY(rcv_mbx(ONE, &got));
+    SAY(got == &high.msgque);
+    SAY(prcv_mbx(ONE, &got));
+    SAY(got == &low.msgque);
+    SAY(trcv_mbx(ONE, &got, TMO_POL));
+    SAY(ref_mbx(ONE, &mailbox));
+    SAY(mailbox.pk_msg == NULL);
+}
+
 void all_calls(VP_INT unused)
 {
     SYSTIM result;
+    T_MSG *got;
     (void)unused;
     times();
     marks();
     processors();
     references();
     mutexes();
+    pools();
+    mailboxes();
     slp_tsk();
     for (INT i = 0; i < calls; i++)
         printf("in the handler: %s = %d\n", handled[i].call, handled[i].answer);
+    SAY(prcv_mbx(ONE, &got));
     dly_tsk(1);
     SAY_RESULT(get_tim(&result));
     ext_ker();

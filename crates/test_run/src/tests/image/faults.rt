@@ -116,7 +116,7 @@ const TEXTS: &[(BuildFault, &str)] = &[
     ),
     (
         BuildFault::Boot(BootFault::Outside),
-        "the boot: a segment, a stack or a start isn't in the board's RAM, or a start isn't aligned",
+        "the boot: a segment, a stack, a memory pool or a start isn't in the board's RAM, or a pool or a start isn't aligned",
     ),
 ];
 
