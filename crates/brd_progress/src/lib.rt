@@ -15,6 +15,12 @@ pub trait Progress {
     /// So many schedules of a search were tried. What doesn't say otherwise does nothing then.
     fn tried(&mut self, _schedules: u64) {}
 
+    /// Whether work that may end early is to end now, with what is done so far. What doesn't say otherwise never asks
+    /// for that.
+    fn is_asked_to_stop(&mut self) -> bool {
+        false
+    }
+
     /// Whether so many seconds have gone by since work began. What doesn't say otherwise doesn't know.
     fn is_over(&mut self, _seconds: u32) -> bool {
         false
