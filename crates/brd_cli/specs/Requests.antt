@@ -150,6 +150,7 @@ AreSearchOptions rows options = AreSizes rows options.sizes
     × (option_map (λ text. text.now) options.shard ≡ first_of (codes "SHARD") rows)
     × IsNumberOr 0 (one_of (codes "MIB") rows) options.remember
     × IsNumberOr 0 (one_of (codes "SECONDS") rows) options.time
+    × IsNumberOr 0 (one_of (codes "THREADS") rows) options.threads
     × IsNumberOr 0 (one_of (codes "PLACES") rows) options.places
     × IsFlag (one_of (codes "livelock") rows) options.livelock
     × IsFlag (one_of (codes "finals") rows) options.finals

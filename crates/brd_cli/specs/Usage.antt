@@ -134,7 +134,8 @@ checks =
 abbrev pub searching : List Rule
 searching =
     flag (codes "shortest") ∷ option (codes "SHARD") (codes "shard") ∷ count (codes "MIB") (codes "remember")
-    ∷ count (codes "SECONDS") (codes "time") ∷ count (codes "PLACES") (codes "places") ∷ flag (codes "livelock") ∷ flag (codes "finals")
+    ∷ count (codes "SECONDS") (codes "time") ∷ count (codes "THREADS") (codes "threads")
+    ∷ count (codes "PLACES") (codes "places") ∷ flag (codes "livelock") ∷ flag (codes "finals")
     ∷ option (codes "OUT") (codes "out") ∷ data_option ∷ []
 
 -- `explore` and `shrink` take their options before, between or after their files

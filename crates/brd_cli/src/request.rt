@@ -298,6 +298,7 @@ fn search_options_of<'a>(arguments: &ArgMatches<'a>) -> SearchOptions<'a>
         shard: text_of(arguments, "SHARD"),
         remember: number_or(arguments, "MIB", 0),
         time: number_or(arguments, "SECONDS", 0),
+        threads: number_or(arguments, "THREADS", 0),
         places: number_or(arguments, "PLACES", 0),
         livelock: flag_of(arguments, "livelock"),
         finals: flag_of(arguments, "finals"),

@@ -573,6 +573,12 @@ fn with_search<'a>(alloc: Global, command: Command<'a>) -> Result<Command<'a>, N
         ))?
         .arg(count(
             alloc,
+            "THREADS",
+            "threads",
+            "How many threads search, 1 to 64; one if left out",
+        ))?
+        .arg(count(
+            alloc,
             "PLACES",
             "places",
             "Sets no bound on events and preemptions; goes through so many places at most",

@@ -106,7 +106,7 @@ pub enum Request<'a> {
 /// Does what was asked for, on files, standard input and standard output. `words` and `journal` touch no file; `asm`
 /// neither reads standard input nor writes standard output; `run`, `race`, `trace`, `journal`, `explore`, `shrink` and
 /// `try` don't read standard input. `debug` and `gdb` read that only where their files could be opened and make a
-/// debugger. Threads of the host are started only for `race`. How far `run`, `race`, `debug`, `gdb`, `trace` and
+/// debugger. Threads of the host are started only for `race` and `explore`. How far `run`, `race`, `debug`, `gdb`, `trace` and
 /// `explore` are, is told on the way, and what is odd about the input of `asm`, `run` and `try`.
 pub fn perform<F: Files, R: Read, W: Write, P: Progress + Send, T: Threads + Wait + Sync>(
     rt: &T,
@@ -169,7 +169,9 @@ pub fn perform<F: Files, R: Read, W: Write, P: Progress + Send, T: Threads + Wai
             config,
             options,
             out,
-        } => explore_files(alloc, files, image, config, options, out, output, progress),
+        } => explore_files(
+            rt, alloc, files, image, config, options, out, output, progress,
+        ),
         Request::Shrink {
             image,
             config,

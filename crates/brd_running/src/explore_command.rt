@@ -28,6 +28,7 @@ use brd_search::{
 use brd_threads::processors;
 use std::alloc::Global;
 use std::io::{Read, Write};
+use std::thread::Threads;
 
 /// With what the text begins that tells of a schedule that fails.
 const FAILS: &[u8] = b"fails ";
@@ -50,7 +51,8 @@ pub struct Told {
 /// Reads an object file and a configuration to their ends, in this order, and searches the schedules of the board that
 /// they make for one that fails. Answers what that came to, in words, and the text of the journal of one that fails, if
 /// there is one. How many schedules were tried is told on the way.
-pub fn explore<R: Read, P: Progress>(
+pub fn explore<R: Read, P: Progress + Send, T: Threads + Sync>(
+    rt: &T,
     alloc: Global,
     pair: &mut Pair<R>,
     options: SearchOptions<'_>,
@@ -66,13 +68,14 @@ pub fn explore<R: Read, P: Progress>(
         Ok(loaded) => loaded,
         Err(fault) => return Err(fault),
     };
-    told_of(alloc, &loaded, options, progress)
+    told_of(rt, alloc, &loaded, options, progress)
 }
 
 /// Does `explore` on its files: IMAGE is opened, then CONFIG, and both are read. OUT may be neither, and is refused
 /// before the search where it couldn't be created. If a schedule was found that fails, OUT, if it is named, gets the
 /// journal, whole or not at all, before that is told; the command then ends as one that has found a failure does.
-pub fn explore_files<F: Files, W: Write, P: Progress>(
+pub fn explore_files<F: Files, W: Write, P: Progress + Send, T: Threads + Sync>(
+    rt: &T,
     alloc: Global,
     files: &mut F,
     image: &str,
@@ -97,7 +100,7 @@ pub fn explore_files<F: Files, W: Write, P: Progress>(
         Ok(()) => {}
         Err(fault) => return Err(fault),
     }
-    let Told { text, journal } = match explore(alloc, &mut pair, options, progress) {
+    let Told { text, journal } = match explore(rt, alloc, &mut pair, options, progress) {
         Ok(told) => told,
         Err(fault) => return Err(fault),
     };
@@ -127,7 +130,8 @@ fn failed(
 }
 
 /// What is told of the search that options ask for.
-fn told_of<P: Progress>(
+fn told_of<P: Progress + Send, T: Threads + Sync>(
+    rt: &T,
     alloc: Global,
     loaded: &Loaded,
     options: SearchOptions<'_>,
@@ -146,7 +150,7 @@ fn told_of<P: Progress>(
     if plan.places > 0 {
         return told_of_all(alloc, &loaded.board, symbols, &plan);
     }
-    let searched = match searched_by(alloc, &loaded.board, &plan, progress) {
+    let searched = match searched_by(rt, alloc, &loaded.board, &plan, progress) {
         Ok(searched) => searched,
         Err(why) => return Err(no_answer_of(why)),
     };
@@ -157,7 +161,8 @@ fn told_of<P: Progress>(
 }
 
 /// Searches the schedules within bounds, for so many seconds at most if that is asked for.
-fn searched_by<P: Progress>(
+fn searched_by<P: Progress + Send, T: Threads + Sync>(
+    rt: &T,
     alloc: Global,
     board: &Board,
     plan: &Plan,
@@ -175,9 +180,9 @@ fn searched_by<P: Progress>(
     ensures stops { IfErr result (StopsSo plan.now board.now (not (plan.now.time == 0))) }
 {
     if plan.time == 0 {
-        return search(alloc, board, plan, &mut Searching::new(progress));
+        return search(rt, alloc, board, plan, &mut Searching::new(progress));
     }
-    search(alloc, board, plan, &mut Timed::new(progress, plan.time))
+    search(rt, alloc, board, plan, &mut Timed::new(progress, plan.time))
 }
 
 /// The fault of a search that has come to no answer.

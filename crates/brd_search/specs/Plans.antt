@@ -28,7 +28,8 @@ use Rattle.brd_search.specs.Escapes.{bytes_of}
 use Rattle.brd_search.specs.declared.fault.SearchFault.{SearchFault}
 use Rattle.brd_search.specs.declared.fault.SearchFault.TheVariants.{NoMemory, Events, Fair, Remember, Lines, NoLines}
 use Rattle.brd_search.specs.declared.fault.SearchFault.TheVariants.{Twice, NoHandler, Ends, Places, Reach, Never, Time}
-use Rattle.brd_search.specs.declared.fault.SearchFault.TheVariants.{Word, NoSymbol, Console, Shard, Raises as BadRaises}
+use Rattle.brd_search.specs.declared.fault.SearchFault.TheVariants.{Word, NoSymbol, Console, Shard, Threads}
+use Rattle.brd_search.specs.declared.fault.SearchFault.TheVariants.{Raises as BadRaises}
 use Rattle.brd_search.specs.declared.raises.Raises.{Raises}
 use Rattle.brd_search.specs.declared.options.Looks.{Looks}
 use Rattle.brd_search.specs.declared.options.SearchOptions.{SearchOptions}
@@ -394,8 +395,8 @@ bounds_of options said = record {
 -- options ask for nothing that a search doesn't know for which events and preemptions have no bound
 abbrev pub is_plain : SearchOptions → Bool
 is_plain options =
-    options.sizes.fair == 0 && options.remember == 0 && options.time == 0 && not options.shortest
-    && not (is_some (text_of options.shard))
+    options.sizes.fair == 0 && options.remember == 0 && options.time == 0 && options.threads == 0
+    && not options.shortest && not (is_some (text_of options.shard))
 
 -- They don't ask for such a search, nor for boards from which no schedule comes to an end, or they ask for nothing
 -- else.
@@ -412,6 +413,7 @@ pub record IsPlan (options : SearchOptions) (b : BoardState) (cpus : ℕ) (symbo
   where
     pub most_events : options.sizes.events ≤ 1000000
     pub most_remembered : options.remember ≤ 4096
+    pub most_threads : options.threads ≤ 64
     pub said : Raises
     pub bounds : plan.bounds ≡ bounds_of options said
     pub among : HasLines options cpus said plan.among
@@ -423,6 +425,7 @@ pub record IsPlan (options : SearchOptions) (b : BoardState) (cpus : ℕ) (symbo
     pub shortest : plan.shortest ≡ options.shortest
     pub remember : plan.remember ≡ options.remember
     pub time : plan.time ≡ options.time
+    pub threads : plan.threads ≡ options.threads
     pub places : plan.places ≡ options.places
     pub livelock : plan.livelock ≡ options.livelock
     pub finals : plan.finals ≡ options.finals
@@ -446,6 +449,7 @@ pub record IsUnfit (options : SearchOptions) (cpus : ℕ) (is : List Event → B
 abbrev pub KeepsFromPlanning : SearchOptions → BoardState → ℕ → List Symbol → SearchFault → Type 0
 KeepsFromPlanning options b cpus symbols Events = 1000000 < options.sizes.events
 KeepsFromPlanning options b cpus symbols Remember = 4096 < options.remember
+KeepsFromPlanning options b cpus symbols Threads = 64 < options.threads
 KeepsFromPlanning options b cpus symbols BadRaises = raises_said (text_of options.raises) ≡ None
 KeepsFromPlanning options b cpus symbols Lines = HaveNoLines options Lines
 KeepsFromPlanning options b cpus symbols NoLines = HaveNoLines options NoLines
@@ -479,6 +483,7 @@ IsOfTime fits _ = ⊥
 pub record IsSized (options : SearchOptions) (said : Raises) (bounds : Bounds) : Type 0 where
   pub most_events : options.sizes.events ≤ 1000000
   pub most_remembered : options.remember ≤ 4096
+  pub most_threads : options.threads ≤ 64
   pub is : bounds ≡ bounds_of options said
 
 -- the raises that a text says
@@ -506,6 +511,7 @@ AreNoRaises text _ = ⊥
 abbrev pub IsOfSizes : SearchOptions → SearchFault → Type 0
 IsOfSizes options Events = 1000000 < options.sizes.events
 IsOfSizes options Remember = 4096 < options.remember
+IsOfSizes options Threads = 64 < options.threads
 IsOfSizes options _ = ⊥
 
 -- the shard that a text says

@@ -20,6 +20,9 @@ pub enum SearchFault {
     /// More is to be remembered than may be.
     #[error("--remember is a number of MiB from 0 to 4,096")]
     Remember,
+    /// More threads are to search than may.
+    #[error("--threads is a number from 1 to 64")]
+    Threads,
     /// The lines aren't numbers of interrupt lines.
     #[error("--lines has interrupt lines from 0 to 31 with commas between them, as 3,4")]
     Lines,
@@ -61,7 +64,7 @@ pub enum SearchFault {
     #[error("--out names the object file or the configuration")]
     OverInput,
     /// A search without bounds is to do what it doesn't know.
-    #[error("--places goes with none of --fair, --remember, --shard, --shortest and --time")]
+    #[error("--places goes with none of --fair, --remember, --shard, --shortest, --threads and --time")]
     Places,
     /// A search that may take so many seconds is to find the shortest schedule.
     #[error("--time doesn't go with --shortest")]

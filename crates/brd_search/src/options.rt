@@ -52,6 +52,8 @@ pub struct SearchOptions<'a> {
     pub remember: u32,
     /// How many seconds it may take; 0: any number.
     pub time: u32,
+    /// How many threads of the host search; 0: none but that of the command.
+    pub threads: u32,
     /// Through how many places a search goes at most for which events and preemptions have no bound; 0: they have.
     pub places: u32,
     /// Whether such a search also looks for a board from which no schedule comes to an end.

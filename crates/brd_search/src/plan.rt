@@ -23,6 +23,9 @@ const MOST_EVENTS: u32 = 1_000_000;
 /// How many MiB of states are remembered at most (own choice).
 const MOST_REMEMBERED: u32 = 4_096;
 
+/// How many threads of the host search at most (own choice).
+const MOST_THREADS: u32 = 64;
+
 /// How many shards there are at most (own choice).
 const MOST_SHARDS: u64 = 1_000_000;
 
@@ -42,6 +45,8 @@ pub struct Plan {
     pub remember: u32,
     /// How many seconds the search may take; 0: any number.
     pub time: u32,
+    /// How many threads of the host search; 0: none but that of the command.
+    pub threads: u32,
     /// Through how many places a search goes at most for which events and preemptions have no bound; 0: they have.
     pub places: u32,
     /// Whether such a search also looks for a board from which no schedule comes to an end.
@@ -61,6 +66,7 @@ impl Drop for Plan {
             shortest: _,
             remember: _,
             time: _,
+            threads: _,
             places: _,
             livelock: _,
             finals: _,
@@ -99,6 +105,7 @@ pub fn plan_of(
         shortest: options.shortest,
         remember: options.remember,
         time: options.time,
+        threads: options.threads,
         places: options.places,
         livelock: options.livelock,
         finals: options.finals,
@@ -146,12 +153,13 @@ fn is_plain(options: &SearchOptions<'_>) -> bool
     options.sizes.fair == 0
         && options.remember == 0
         && options.time == 0
+        && options.threads == 0
         && !options.shortest
         && options.shard.is_none()
 }
 
-/// The bounds that options give, with these raises. They ask neither for too many events nor for too much that is
-/// remembered.
+/// The bounds that options give, with these raises. They ask neither for too many events or threads nor for too much
+/// that is remembered.
 fn bounds_of(options: &SearchOptions<'_>, raises: Raises) -> Result<Bounds, SearchFault>
     ensures { MatchResult result (IsSized options.now raises) (IsOfSizes options.now) }
 {
@@ -166,6 +174,9 @@ fn bounds_of(options: &SearchOptions<'_>, raises: Raises) -> Result<Bounds, Sear
     }
     if options.remember > MOST_REMEMBERED {
         return Err(SearchFault::Remember);
+    }
+    if options.threads > MOST_THREADS {
+        return Err(SearchFault::Threads);
     }
     Ok(Bounds {
         events,

@@ -11,8 +11,10 @@ ghost use Rattle.brd_explore.specs.Shards.{AnswersInShard};
 use crate::plan::Plan;
 use brd_base::NoMemory;
 use brd_board::{Board, Event};
-use brd_explore::{Bounds, Counts, Found, Halt, Watch, find_in_shard};
+use brd_crew::find_by_threads;
+use brd_explore::{Bounds, Counts, Found, Halt, Watch};
 use std::alloc::Global;
+use std::thread::Threads;
 
 /// What a search came to.
 #[derive(Drop)]
@@ -49,8 +51,10 @@ impl From<NoMemory> for NoAnswer {
 }
 
 /// Searches the schedules of a board for one that fails: those without preemptions first, then those with one, and so
-/// on; and then, if that is asked for, for one with fewer events, until there is none.
-pub fn search<W: Watch>(
+/// on; and then, if that is asked for, for one with fewer events, until there is none. As many threads of the host
+/// search as the plan has.
+pub fn search<T: Threads + Sync, W: Watch + Send>(
+    rt: &T,
     alloc: Global,
     board: &Board,
     plan: &Plan,
@@ -67,15 +71,16 @@ pub fn search<W: Watch>(
         IfOk result
         (λ found. IsFewest plan.now board.now found.bounds (option_map (λ events. events.items) found.schedule)) }
 {
-    let searched = with_fewest(alloc, board, plan, watch)?;
+    let searched = with_fewest(rt, alloc, board, plan, watch)?;
     if plan.shortest {
-        return shortest(alloc, board, plan, searched, watch);
+        return shortest(rt, alloc, board, plan, searched, watch);
     }
     Ok(searched)
 }
 
 /// Searches the schedules without preemptions first, then those with one, and so on.
-fn with_fewest<W: Watch>(
+fn with_fewest<T: Threads + Sync, W: Watch + Send>(
+    rt: &T,
     alloc: Global,
     board: &Board,
     plan: &Plan,
@@ -93,7 +98,7 @@ fn with_fewest<W: Watch>(
             preemptions,
             ..plan.bounds
         };
-        let searched = match within(alloc, board, plan, bounds, watch) {
+        let searched = match within(rt, alloc, board, plan, bounds, watch) {
             Ok(searched) => searched,
             Err(halt) => return Err(no_answer(halt, preemptions)),
         };
@@ -102,7 +107,7 @@ fn with_fewest<W: Watch>(
         }
         // More preemptions make no difference then.
         if searched.counts.spare > 0 {
-            let whole = match within(alloc, board, plan, plan.bounds, watch) {
+            let whole = match within(rt, alloc, board, plan, plan.bounds, watch) {
                 Ok(whole) => whole,
                 Err(halt) => return Err(no_answer(halt, preemptions + 1)),
             };
@@ -111,7 +116,7 @@ fn with_fewest<W: Watch>(
             }
         }
     }
-    match within(alloc, board, plan, plan.bounds, watch) {
+    match within(rt, alloc, board, plan, plan.bounds, watch) {
         Ok(searched) => Ok(searched),
         Err(halt) => Err(no_answer(halt, plan.bounds.preemptions)),
     }
@@ -130,7 +135,8 @@ fn no_answer(halt: Halt, preemptions: u32) -> NoAnswer
 }
 
 /// Searches the schedules within bounds.
-fn within<W: Watch>(
+fn within<T: Threads + Sync, W: Watch + Send>(
+    rt: &T,
     alloc: Global,
     board: &Board,
     plan: &Plan,
@@ -145,8 +151,10 @@ fn within<W: Watch>(
     ensures bounds { IfOk result (λ found. found.bounds ≡ bounds) }
     ensures halts { IfErr result (HaltsSo W.may_stop) }
 {
-    let Found { schedule, counts } = find_in_shard(
+    let Found { schedule, counts } = find_by_threads(
+        rt,
         alloc,
+        plan.threads,
         board,
         bounds,
         plan.among.as_slice(),
@@ -194,7 +202,8 @@ const PAGE: u32 = 4_096;
 const PAGES: u32 = 4_096;
 
 /// Searches for a schedule with fewer events as long as there is one.
-fn shortest<W: Watch>(
+fn shortest<T: Threads + Sync, W: Watch + Send>(
+    rt: &T,
     alloc: Global,
     board: &Board,
     plan: &Plan,
@@ -211,7 +220,7 @@ fn shortest<W: Watch>(
 {
     let mut best = found;
     while let Some(bounds) = fewer(plan, &best) {
-        let searched = match within(alloc, board, plan, bounds, watch) {
+        let searched = match within(rt, alloc, board, plan, bounds, watch) {
             Ok(searched) => searched,
             Err(halt) => return Err(no_answer(halt, 0)),
         };

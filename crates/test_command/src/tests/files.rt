@@ -168,6 +168,7 @@ const SEARCH: SearchOptions<'static> = SearchOptions {
     shard: None,
     remember: 0,
     time: 0,
+    threads: 0,
     places: 0,
     livelock: false,
     finals: false,

@@ -7,10 +7,12 @@ use super::sources::{
 };
 use brd_base::List;
 use brd_board::{Board, Event};
+use brd_crew::find_by_threads;
 use brd_explore::{Bounds, Failure, Nobody, Shard, Wanted, find, find_in_shard};
 use brd_image::build;
 use std::alloc::Global;
 use std::test::Fail;
+use std::thread::Threads;
 use test_help::none_wrong;
 
 /// What is not to happen.
@@ -426,6 +428,59 @@ fn first_wrong_in_shards(alloc: Global) -> Option<usize> {
 #[test]
 fn shards_find_the_same(rt: HostRuntime) -> Result<(), Fail> {
     none_wrong(first_wrong_in_shards(rt.alloc()))
+}
+
+/// What is told of the search of a case at a board by three threads.
+fn search_by_threads<T: Threads + Sync>(rt: &T, alloc: Global, board: &Board, case: &Case) -> Told {
+    let Some(wanted) = wanted_of(alloc, case) else {
+        return Told::Nothing;
+    };
+    let bounds = bounds_of(case);
+    match find_by_threads(
+        rt,
+        alloc,
+        3,
+        board,
+        bounds,
+        case.among,
+        WHOLE,
+        &wanted,
+        0,
+        &mut Nobody,
+    ) {
+        Ok(found) => told_of(found.schedule.is_some(), found.counts.tried),
+        Err(_) => Told::Nothing,
+    }
+}
+
+/// The shard that is the whole.
+const WHOLE: Shard = Shard { number: 0, of: 1 };
+
+/// Whether the search of a case by several threads comes to what that of one shard does.
+fn goes_well_by_threads<T: Threads + Sync>(rt: &T, alloc: Global, case: &Case) -> bool {
+    match build(alloc, case.source.as_bytes(), case.config.as_bytes()) {
+        Ok(board) => {
+            let one = search_of_shards(alloc, &board, case, 1);
+            search_by_threads(rt, alloc, &board, case) == one
+        }
+        Err(_) => false,
+    }
+}
+
+/// The first case whose search by several threads comes to something else.
+fn first_wrong_by_threads<T: Threads + Sync>(rt: &T, alloc: Global) -> Option<usize> {
+    for (row, case) in CASES.iter().enumerate() {
+        if !goes_well_by_threads(rt, alloc, case) {
+            return Some(row);
+        }
+    }
+    None
+}
+
+/// Several threads find a race that one finds, and else try the same schedules together.
+#[test]
+fn threads_find_the_same(rt: HostRuntime) -> Result<(), Fail> {
+    none_wrong(first_wrong_by_threads(&rt, rt.alloc()))
 }
 
 /// How many places are remembered.

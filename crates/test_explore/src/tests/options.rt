@@ -37,6 +37,7 @@ const OPTIONS: SearchOptions = SearchOptions {
     shard: None,
     remember: 0,
     time: 0,
+    threads: 0,
     places: 0,
     livelock: false,
     finals: false,
@@ -70,6 +71,21 @@ const FAULTS: &[(SearchOptions<'static>, SearchFault)] = &[
             ..OPTIONS
         },
         SearchFault::Remember,
+    ),
+    (
+        SearchOptions {
+            threads: 65,
+            ..OPTIONS
+        },
+        SearchFault::Threads,
+    ),
+    (
+        SearchOptions {
+            places: 1,
+            threads: 2,
+            ..OPTIONS
+        },
+        SearchFault::Places,
     ),
     (
         SearchOptions {

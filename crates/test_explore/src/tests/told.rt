@@ -10,6 +10,7 @@ use brd_search::{
 };
 use std::alloc::Global;
 use std::test::Fail;
+use std::thread::Threads;
 use test_help::none_wrong;
 
 /// A search and what is told of it.
@@ -127,10 +128,10 @@ looked for: 80000000 that isn't 2 at the end
 ];
 
 /// What is told of the search of a case.
-fn told_of(alloc: Global, case: &Case) -> Option<Vec<u8>> {
+fn told_of<T: Threads + Sync>(rt: &T, alloc: Global, case: &Case) -> Option<Vec<u8>> {
     let board = build(alloc, case.source.as_bytes(), case.config.as_bytes()).ok()?;
     let plan = plan_of(alloc, &options_of(case), &board, 2, &[]).ok()?;
-    let searched = search(alloc, &board, &plan, &mut Nobody).ok()?;
+    let searched = search(rt, alloc, &board, &plan, &mut Nobody).ok()?;
     let mut out = Vec::new(alloc);
     told(alloc, &board, &plan, &searched, &mut out).ok()?;
     Some(out)
@@ -152,6 +153,7 @@ fn options_of(case: &Case) -> SearchOptions<'static> {
         shard: None,
         remember: 0,
         time: 0,
+        threads: 0,
         places: 0,
         livelock: false,
         finals: false,
@@ -173,9 +175,9 @@ fn told(
 }
 
 /// The first case of which something else is told.
-fn first_wrong(alloc: Global) -> Option<usize> {
+fn first_wrong<T: Threads + Sync>(rt: &T, alloc: Global) -> Option<usize> {
     for (row, case) in CASES.iter().enumerate() {
-        let told = told_of(alloc, case);
+        let told = told_of(rt, alloc, case);
         if told.as_deref() != Some(case.told.as_bytes()) {
             return Some(row);
         }
@@ -186,5 +188,5 @@ fn first_wrong(alloc: Global) -> Option<usize> {
 /// The lost update and the deadlock are told by their switches, and by what fails; where nothing fails, the bounds are.
 #[test]
 fn searches_are_told(rt: HostRuntime) -> Result<(), Fail> {
-    none_wrong(first_wrong(rt.alloc()))
+    none_wrong(first_wrong(&rt, rt.alloc()))
 }
