@@ -122,7 +122,7 @@ without() {
     while [ $# -gt 0 ]; do
         case $1 in
         --shortest) ;;
-        --events | --preemptions | --ticks | --raises | --lines | --shard | --remember | --time) shift ;;
+        --events | --preemptions | --ticks | --raises | --lines | --shard | --remember | --threads | --time) shift ;;
         *) options+=("$1") ;;
         esac
         shift
@@ -179,7 +179,7 @@ unbounded() {
     options=()
     while [ $# -gt 0 ]; do
         case $1 in
-        --events | --preemptions | --fair | --shard | --remember | --time) shift ;;
+        --events | --preemptions | --fair | --shard | --remember | --threads | --time) shift ;;
         --shortest) ;;
         *) options+=("$1") ;;
         esac
@@ -531,6 +531,24 @@ assembled peterson.s
 explores "$image" $examples/peterson.cfg --word inside=0..1 --events 50 --preemptions 2 --time 1000000 --out "$work/found"
 verdict "explore: what is found in time" "$(is_found $?)"
 
+# ---- Threads: what one thread says, but which schedule is found
+
+for threads in 1 2 5 64; do
+    assembled peterson_right.s
+    explores "$image" $examples/peterson.cfg --word inside=0..1 --events 50 --preemptions 2 --threads $threads
+    wrong=$(is_none 836 "at most 50 events, 2 preemptions, 0 ticks and 0 raises" $? 371)
+    explores "$image" $examples/peterson.cfg --word inside=0..1 --events 50 --preemptions 2 --threads $threads --shard 2/3
+    wrong="$wrong$(grep -q '^none of [0-9]* schedules fails' "$work/out" || echo "; shard 2 of 3: $(head -c 300 "$work/out")")"
+    assembled peterson.s
+    explores "$image" $examples/peterson.cfg --word inside=0..1 --events 50 --preemptions 2 --threads $threads --out "$work/found"
+    verdict "explore: by $threads threads" "$wrong$(is_found $?)"
+    explores "$image" $examples/peterson.cfg --word inside=0..1 --events 50 --preemptions 2 --threads $threads --shortest --out "$work/found"
+    verdict "explore: the shortest by $threads threads" "$(is_found $?)"
+done
+assembled peterson_right.s
+explores "$image" $examples/peterson.cfg --word inside=0..1 --events 60 --preemptions 9 --threads 3 --time 2
+verdict "explore: time is over for threads" "$(is_over $?)"
+
 # ---- Options that have no meaning
 
 assembled lost_update.s
@@ -556,13 +574,14 @@ for wrong in '' count 'count <' '< 2' 'count = 2' 'count => 2' 'count ! 2' 'coun
 done
 refuses "--events is a number from 0 to 1,000,000" --events 1000001
 refuses "--fair is a number of rounds from 0 to 20,000" --fair 20001
-for option in "--fair 1" "--remember 1" "--shard 1/1" --shortest "--time 1"; do
-    refuses "--places goes with none of --fair, --remember, --shard, --shortest and --time" --places 10 $option
+for option in "--fair 1" "--remember 1" "--shard 1/1" --shortest "--threads 2" "--time 1"; do
+    refuses "--places goes with none of --fair, --remember, --shard, --shortest, --threads and --time" --places 10 $option
 done
 refuses "not known: there are more than --places places" --places 1
 refuses "--livelock and --finals go with --places" --livelock
 refuses "--livelock and --finals go with --places" --finals
 refuses "--remember is a number of MiB from 0 to 4,096" --remember 4097
+refuses "--threads is a number from 1 to 64" --threads 65
 refuses "--raises says how often lines may be raised, and --lines which" --raises 1
 refuses "--raises says how often lines may be raised, and --lines which" --lines 3
 for wrong in '' x -1 1.2 2..1 ..1 1.. 1..x 01 4294967296; do
@@ -584,7 +603,7 @@ for wrong in '\' '\q' '\x4' '\xzz'; do
     refuses '--console has a text, in which \n, \r, \t, \\ and \xHH stand for a byte' --console "$wrong"
 done
 refuses "--time doesn't go with --shortest" --shortest --time 1
-for option in --events --preemptions --ticks --fair --remember --time; do
+for option in --events --preemptions --ticks --fair --remember --threads --time; do
     for wrong in x -1 1.5 4294967296; do
         explores "${files[@]}" $option $wrong
         got=$?
