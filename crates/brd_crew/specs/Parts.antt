@@ -1,6 +1,5 @@
 -- Parts of a shard, in which several threads search it.
-use Rattle.std.specs.Prelude.{◌≡◌, ℕ, ◌+◌, ◌*◌, ◌<◌, Bool, true, List, All, Option, IfSome, option_map}
-use Rattle.std.specs.Slice.{slice_get}
+use Rattle.std.specs.Prelude.{ℕ, ◌+◌, ◌*◌, ◌<◌, List, All, Option, IfSome}
 use Rattle.brd_board.specs.declared.event.Event.{Event}
 use Rattle.brd_explore.specs.declared.shard.Shard.{Shard}
 use Rattle.brd_explore.specs.declared.wanted.Wanted.{Wanted}

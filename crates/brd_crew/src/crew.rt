@@ -112,13 +112,20 @@ fn all_shares<T: Threads + Sync, W: Watch + Send>(
 {
     let sharing = Sharing::new(watch);
     let each = remember / threads.max(1) as usize;
-    let shares = map_indices(rt, alloc, threads as usize, &|_thread: usize| -> Result<Share, NoMemory>
-        requires { Fits shard parts }
-        ensures { IfOk result (λ share. HasSearched wanted.entry.now shard parts among.entry.now
-            (start board.entry.now bounds) (option_map (λ events. events.items) share.schedule) share.done) }
-    {
-        search_parts(alloc, parts, board, bounds, among, shard, wanted, each, trunk, &sharing)
-    })?;
+    let shares = map_indices(
+        rt,
+        alloc,
+        threads as usize,
+        &|_thread: usize| -> Result<Share, NoMemory>
+            requires { Fits shard parts }
+            ensures { IfOk result (λ share. HasSearched wanted.entry.now shard parts among.entry.now
+                (start board.entry.now bounds) (option_map (λ events. events.items) share.schedule) share.done) }
+        {
+            search_parts(
+                alloc, parts, board, bounds, among, shard, wanted, each, trunk, &sharing,
+            )
+        },
+    )?;
     Ok(shares)
 }
 
@@ -149,7 +156,10 @@ fn search_parts<W: Watch>(
             return Ok(share);
         };
         let shard = part_of(shard, parts, part);
-        let Some(found) = search_part(alloc, board, bounds, among, shard, wanted, remember, sharing)? else {
+        let Some(found) = search_part(
+            alloc, board, bounds, among, shard, wanted, remember, sharing,
+        )?
+        else {
             return Ok(share);
         };
         share.counts = plus(share.counts, less(found.counts, trunk));
@@ -180,7 +190,16 @@ fn search_part<W: Watch>(
         (option_map (λ events. events.items) found.schedule))) }
 {
     let mut lookout = Lookout::new(sharing);
-    match find_in_shard(alloc, board, bounds, among, part, wanted, remember, &mut lookout) {
+    match find_in_shard(
+        alloc,
+        board,
+        bounds,
+        among,
+        part,
+        wanted,
+        remember,
+        &mut lookout,
+    ) {
         Ok(found) => Ok(Some(found)),
         Err(Halt::Stopped) => Ok(None),
         Err(Halt::NoMemory) => Err(NoMemory),
@@ -218,7 +237,7 @@ fn joined(
         if schedule.is_some() {
             return Ok(Some(Found { schedule, counts }));
         }
-        done.extend_from_slice(mine.as_slice())?;
+        done.append(mine.as_slice())?;
     }
     if !are_all(parts, done.as_slice()) {
         return Ok(None);
@@ -231,14 +250,21 @@ fn joined(
 
 /// Whether these are all of so many parts.
 fn are_all(parts: u32, done: &[u32]) -> bool
-    ensures { result ≡ true → (part : ℕ) → part < parts → Contains part done.now }
+    ensures { result ≡ true → (part : ℕ) → part < parts → Contains done.now part }
 {
     for part in 0..parts {
-        if !done.contains(&part) {
+        if !is_among(done, part) {
             return false;
         }
     }
     true
+}
+
+/// Whether this is one of some parts.
+fn is_among(parts: &[u32], part: u32) -> bool
+    ensures { result ≡ true → Contains parts.now part }
+{
+    parts.contains(&part)
 }
 
 /// No schedules, with as many preemptions left as on the one that all parts share.

@@ -11,7 +11,7 @@ const PARTS: u32 = 16;
 /// Into how many parts a shard is dealt for so many threads. `None`: it isn't dealt, since one thread is enough, or the
 /// numbers of the parts would be too large.
 pub(crate) fn parts_for(shard: Shard, threads: u32) -> Option<u32>
-    ensures { IfSome result (Fits shard) }
+    ensures { IfSome result (λ parts. Fits shard parts) }
 {
     if threads < 2 || shard.number >= shard.of {
         return None;

@@ -59,6 +59,7 @@ impl<'a, W: Watch> Sharing<'a, W> {
 }
 
 /// Who watches the search of one thread.
+#[derive(Drop)]
 pub(crate) struct Lookout<'a, 'b, W> {
     sharing: &'a Sharing<'b, W>,
     /// How many schedules of the search are counted.
