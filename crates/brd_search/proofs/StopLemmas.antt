@@ -1,5 +1,5 @@
 -- Why a search has come to no answer.
-use Rattle.std.proofs.Common.{◌≡◌, ℕ, ◌+◌, ◌<◌, false, List, sym, subst, ◌⊎◌, inl, inr, arith, Vec, Global}
+use Rattle.std.proofs.Common.{◌≡◌, ℕ, ◌+◌, ◌<◌, false, sym, subst, ◌⊎◌, inl, inr, arith, Vec, Global}
 use Rattle.std.proofs.lemmas.Bool.{false≢true}
 use Rattle.std.specs.Prelude.{is_some, option_map, Option, Some, None}
 use Rattle.brd_board.specs.declared.event.Event.{Event}
