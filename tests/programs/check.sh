@@ -84,6 +84,12 @@ have() {
     command -v "$1" > /dev/null || { skip "$2" "$1"; return 1; }
 }
 
+# have_terminal NAME: whether this machine gives terminals to programs; the test is skipped where it doesn't.
+have_terminal() {
+    have python3 "$1" || return 1
+    python3 -c 'import os; os.openpty()' 2> /dev/null || { skip "$1" "a terminal of /dev/pts"; return 1; }
+}
+
 # check_script NAME COMMAND..: runs a test of its own, whose status is 0 if it passed. One that can't be made here prints
 # nothing but `wants TOOL`.
 check_script() {

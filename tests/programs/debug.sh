@@ -299,7 +299,7 @@ printf '%s\n' ok 'at 13000' 'at 8192' 'pc 80000008' '$29 80010000' 'at 8187' 'at
 debug "moves to positions that have a snapshot" 0 "$work/wanted" "" "$work/image" $long/config.cfg $long/journal
 
 # On a terminal the commands are listed beside the answer to what is none, and elsewhere they aren't.
-if have python3 "debug: help on a terminal"; then
+if have_terminal "debug: help on a terminal"; then
     tests/programs/terminal "typed help" "$work/out" \
         "$board" debug "$work/image" $long/config.cfg $long/journal > "$work/shown"
     got=$?

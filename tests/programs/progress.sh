@@ -1,7 +1,7 @@
 #!/bin/bash
 # How far a long command is, on a terminal, and how Ctrl-C ends it: tests/programs/progress.sh PROGRAM.
 . "$(dirname "$0")/check.sh"
-have python3 "progress" || { summary; exit; }
+have_terminal "progress" || { summary; exit; }
 printf 'main: addiu $t0, $t0, 1\nj main\nnop\n' > "$work/source"
 echo 'BOARD(1, 0x10000); CRE_TSK(1, {TA_ACT, 0, main, 1, 256, NULL});' > "$work/config"
 printf 'board-journal 1\nS 1 30\n' > "$work/short"
