@@ -122,7 +122,7 @@ mv "$work/err" "$work/with"
 verdict "data: no object file" "$([ $got = 1 ] && diff "$work/with" "$work/err" > /dev/null || cat "$work/with")"
 
 # What a compiler makes says where instructions are, and how large a symbol is.
-if have mips-linux-gnu-gcc "data: object files of a compiler"; then
+if have mips-linux-gnu-gcc "data: more than a symbol has"; then
     cat > "$work/sized.c" << 'END'
 char text[4] = "abc";
 int after = 7;
