@@ -26,8 +26,8 @@ on_terminal() {
     grep -qE "^b'$pattern'\$" "$work/shown" || echo -n "; the terminal shows $(head -c 600 "$work/shown")"
 }
 
-# without_terminal COMMAND ARGUMENT..: what is wrong with the command without a terminal: another output, or something on
-# standard error.
+# without_terminal COMMAND ARGUMENT..: what is wrong with the command without a terminal: another output, or something
+# on standard error.
 without_terminal() {
     "$board" "$@" < "$input" > "$work/plain" 2> "$work/err"
     cmp -s "$work/out" "$work/plain" || echo -n "; another output than without a terminal"
@@ -45,8 +45,8 @@ shows() {
     verdict "progress: $name" "$wrong"
 }
 
-# shows_long NAME COMMAND ARGUMENT..: runs a command on a terminal under the journal $work/long, which gets longer until it
-# takes so long that it is shown how far it is. Without a terminal nothing is shown, and the output is the same. What
+# shows_long NAME COMMAND ARGUMENT..: runs a command on a terminal under the journal $work/long, which gets longer until
+# it takes so long that it is shown how far it is. Without a terminal nothing is shown, and the output is the same. What
 # `debug` reads leads to the journal's end.
 shows_long() {
     local name=$1 wrong events
