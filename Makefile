@@ -17,7 +17,8 @@ PREFIX = /usr/local
 DESTDIR =
 PACKAGE = build/board.deb
 
-.PHONY: unpack demo sheet check board dist test attack compare qemu fuzz firmware gate-times bench bench-parts install uninstall package clean
+.PHONY: unpack demo sheet check board dist test attack compare qemu fuzz firmware gate-times bench bench-parts install \
+    uninstall package clean
 
 # Runs the examples on the program of dist/.
 demo: unpack

@@ -11,8 +11,8 @@ It ends with status 5 if a schedule fails, and prints how many preemptions and e
 CHESS (Musuvathi and Qadeer, "Iterative Context Bounding for Systematic Testing of Multithreaded Programs", PLDI 2007)
 has the bound on preemptions: a switch from a thread that could go on counts, one from a thread that can't is free.
 Whether it could is judged right after its last step. A schedule comes to an end where its board is off, or at rest
-after as many raises as are owed; it is cut short where it hasn't, and no event is left, or nobody goes, a wait would end
-by a tick, and none is left.
+after as many raises as are owed; it is cut short where it hasn't, and no event is left, or nobody goes, a wait would
+end by a tick, and none is left.
 
 Some steps are left out: where a schedule with one of them fails, one without it does. A processor falls asleep by a
 local instruction: one that touches nothing but registers, HI, LO and the program counter, and can raise nothing,
@@ -53,8 +53,8 @@ NOT_LOCAL = set("""ADD SUB ADDI SYSCALL BREAK TGE TGEU TLT TLTU TEQ TNE TGEI TGE
     LB LH LWL LW LBU LHU LWR LL SB SH SWL SW SWR SC""".split())
 Image = collections.namedtuple("Image", "order segments symbols")
 # What is looked for beside words: the failures' names, the console's text or None, and (address, least, most) of words
-# at the end and of words always; and the conditions that are never to hold, each its text, its comparison, and the terms
-# of both of its sums: numbers, and the addresses of words, alone in a tuple.
+# at the end and of words always; and the conditions that are never to hold, each its text, its comparison, and the
+# terms of both of its sums: numbers, and the addresses of words, alone in a tuple.
 Wanted = collections.namedtuple("Wanted", "names console last always rounds never", defaults=((),))
 COMPARISONS = {"<": operator.lt, "<=": operator.le, ">": operator.gt, ">=": operator.ge, "==": operator.eq,
                "!=": operator.ne}

@@ -1,16 +1,18 @@
-"""Random boards whose programs hand words over: by calls, by SYNC beside loads and stores, by LL and SC, and by nothing.
+"""Random boards whose programs hand words over: by calls, by SYNC beside loads and stores, by LL and SC, and by
+nothing.
 
-Most of what they touch are words that come up a few times, each round of a program's loop others: only the first race of
-a word is shown, so what comes after it would be of no account.
+Most of what they touch are words that come up a few times, each round of a program's loop others: only the first race
+of a word is shown, so what comes after it would be of no account.
 """
 from boards import BASE, NUMBERS, SCRATCH, Maker
 from kernel import CALLS, WAITING
 
-# Where the words lie that are handed over, and flags, which hand them over, from MOVING on; and of each program the place
-# of the words that it is at.
+# Where the words lie that are handed over, and flags, which hand them over, from MOVING on; and of each program the
+# place of the words that it is at.
 MOVING, WORDS, FLAGS, OWN = 17, 0x400, 0x4000, 0x300
 LOADS, STORES = ("LW", "LW", "LW", "LBU", "LH", "LWL", "LWR"), ("SW", "SW", "SW", "SB", "SH", "SWL", "SWR")
-# The ways to hand over, of which a board has one: calls of tasks, calls of handlers. (The first one is SYNC, LL and SC.)
+# The ways to hand over, of which a board has one: calls of tasks, calls of handlers. (The first one is SYNC, LL and
+# SC.)
 WAYS = [
     ("get_pid", "iget_tid"),
     ("sig_sem sig_sem wai_sem pol_sem twai_sem", "isig_sem"),
@@ -27,7 +29,8 @@ WAYS = [
     ("snd_mbx snd_mbx rcv_mbx trcv_mbx prcv_mbx", "isnd_mbx"),
 ]
 ENDS = {"loc_cpu": "unl_cpu", "dis_dsp": "ena_dsp", "loc_spn": "unl_spn", "try_spn": "unl_spn", "loc_mtx": "unl_mtx",
-        "tloc_mtx": "unl_mtx", "ploc_mtx": "unl_mtx", "get_mpf": "rel_mpf", "tget_mpf": "rel_mpf", "pget_mpf": "rel_mpf"}
+        "tloc_mtx": "unl_mtx", "ploc_mtx": "unl_mtx", "get_mpf": "rel_mpf", "tget_mpf": "rel_mpf", "pget_mpf":
+        "rel_mpf"}
 
 
 class Handing(Maker):
@@ -61,7 +64,8 @@ class Handing(Maker):
         if number == 12:
             self.standard, self.mailboxes = True, self.mailboxes or {7: self.new_mailbox()}
         self.words, self.step = self.chance(4, 12, 40, 100), self.chance(0, 16, 64, 64, 64)
-        self.flag_words, self.sound, self.base = self.chance(1, 2, 4), self.chance(.3, .6, .9), self.chance(BASE, MOVING)
+        self.flag_words, self.sound = self.chance(1, 2, 4), self.chance(.3, .6, .9)
+        self.base = self.chance(BASE, MOVING)
         if self.suspends:
             self.base, self.sound, self.longest = MOVING, .95, 20
         self.programs = [*self.tasks, *(("line", line) for line in self.lines)]

@@ -86,7 +86,8 @@ segments 65535
 : > "$work/wanted"
 asm "65,535 segments" 1 "${front}its image has more segments or bytes than an object file can hold"
 
-# warning EXAMPLE: what is warned of an example, if anything: words that are no program, and lab 1, of which it is right.
+# warning EXAMPLE: what is warned of an example, if anything: words that are no program, and lab 1, of which it is
+# right.
 warning() {
     local slot="stands in the slot of the branch on line" exception="which is an exception where it is executed"
     local at="stands at the slot of the" done="which does what is there before it goes" nop="write nop before it"
@@ -133,7 +134,8 @@ done
 : > "$work/in"
 refuse_each asm 3 "board: out of memory" "$board" asm "$work/source" /dev/stdout
 
-# A source of which 20 of 30 lines are warned, which each takes memory: the object file is the same where that is refused.
+# A source of which 20 of 30 lines are warned, which each takes memory: the object file is the same where that is
+# refused.
 {
     echo '_start: nop'
     for n in {1..30}; do printf 'b _start\nb _start\nnop\n'; done

@@ -72,7 +72,8 @@ compare() {
   for header in 52 84; do
     gap=$(($(number $((header + 8)) 4) - 0x80000000 - $(wc -c < "$work/board")))
     head -c "$gap" /dev/zero >> "$work/board"
-    tail -c +$(($(number $((header + 4)) 4) + 1)) "$work/object" | head -c "$(number $((header + 16)) 4)" >> "$work/board"
+    tail -c +$(($(number $((header + 4)) 4) + 1)) "$work/object" |
+        head -c "$(number $((header + 16)) 4)" >> "$work/board"
   done
   size=$(wc -c < "$work/board")
   # The linker may put zeros after the section's end.

@@ -15,7 +15,8 @@ trap 'rm -rf "$work"' EXIT
 if [ -z "${PLAIN_PYTHON:-}" ] && command -v python3 > /dev/null; then
     PLAIN_PYTHON=$work/plain
     mkdir "$PLAIN_PYTHON"
-    printf '#!/bin/sh\nexec "%s" -S "$@"\n' "$(python3 -c 'import sys; print(sys.executable)')" > "$PLAIN_PYTHON/python3"
+    printf '#!/bin/sh\nexec "%s" -S "$@"\n' "$(python3 -c 'import sys; print(sys.executable)')" \
+        > "$PLAIN_PYTHON/python3"
     chmod +x "$PLAIN_PYTHON/python3"
     PATH=$PLAIN_PYTHON:$PATH
     export PLAIN_PYTHON
@@ -84,8 +85,14 @@ have() {
     command -v "$1" > /dev/null || { skip "$2" "$1"; return 1; }
 }
 
-# check_script NAME COMMAND..: runs a test of its own, whose status is 0 if it passed. One that can't be made here prints
-# nothing but `wants TOOL`.
+# have_terminal NAME: whether this machine gives terminals to programs; the test is skipped where it doesn't.
+have_terminal() {
+    have python3 "$1" || return 1
+    python3 -c 'import os; os.openpty()' 2> /dev/null || { skip "$1" "a terminal of /dev/pts"; return 1; }
+}
+
+# check_script NAME COMMAND..: runs a test of its own, whose status is 0 if it passed. One that can't be made here
+# prints nothing but `wants TOOL`.
 check_script() {
     local name=$1 said
     shift
@@ -136,7 +143,8 @@ lay() {
     tests/programs/scene --lay "$laid" "$board" "$@" || fail "the files of scenes" "they can't be laid out"
 }
 
-# count_in NAME COMMAND..: runs a test that counts what it has tried itself, and adds the verdicts to the file of verdicts.
+# count_in NAME COMMAND..: runs a test that counts what it has tried itself, and adds the verdicts to the file of
+# verdicts.
 count_in() {
     local name=$1 lines more
     shift

@@ -121,10 +121,11 @@ judged "too few lines" 2 "$(passed one; echo "$part"
     echo "FAILED: coverage: 10 of 14 lines are fewer than COVERAGE=72 of a hundred")" COVERAGE=72
 judged "enough lines" 0 "$(passed one; echo "$part"; passed two; echo "$whole")" COVERAGE=71
 project ci COVERAGE=most
-verdict "make ci, COVERAGE" "$(grep -qx "COVERAGE is a number from 0 to 100, and not 'most'" "$work/err" || cat "$work/err")"
+verdict "make ci, COVERAGE" "$(grep -qx "COVERAGE is a number from 0 to 100, and not 'most'" "$work/err" ||
+    cat "$work/err")"
 
-# failed NAME PATTERN SUITE EDIT: `make ci` with a mistake in one.c that sed's EDIT makes, of which a line has PATTERN; the
-# suite has two failures, and what comes after it is judged all the same.
+# failed NAME PATTERN SUITE EDIT: `make ci` with a mistake in one.c that sed's EDIT makes, of which a line has PATTERN;
+# the suite has two failures, and what comes after it is judged all the same.
 failed() {
     local got
     cp "$several/one.c" "$work/one.c"

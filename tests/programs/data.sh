@@ -1,6 +1,6 @@
 #!/bin/bash
-# The tests of `--data`: tests/programs/data.sh PROGRAM. A program that writes the text at the label text, up to a byte 0,
-# is given other texts.
+# The tests of `--data`: tests/programs/data.sh PROGRAM. A program that writes the text at the label text, up to a byte
+# 0, is given other texts.
 . "$(dirname "$0")/check.sh"
 
 cat > "$work/says.s" << 'END'
@@ -46,14 +46,16 @@ says "several" Hee --data "0x80000029=$work/e" --data "0x8000002A=$work/e"
 says "in any order" Hee --data "0x8000002a=$work/e" --data "0x80000029=$work/e"
 says "empty files" Ho --data "text=$work/empty" --data "text=$work/ho" --data "0x80000029=$work/empty"
 says "where nothing is loaded" Hi --data "0x8000C000=$work/ho"
-"$board" run "$work/says.elf" "$work/says.cfg" "$work/says.journal" --data text=- < "$work/ho" > "$work/out" 2> "$work/err"
+"$board" run "$work/says.elf" "$work/says.cfg" "$work/says.journal" --data text=- < "$work/ho" > "$work/out" \
+    2> "$work/err"
 verdict "data: standard input" "$([ "$(console "$work/out")" = Ho ] || cat "$work/err" "$work/out")"
 
 # A file with the data is one as another: all commands take it.
 sed 's/Hi/Ho/' "$work/says.s" > "$work/other.s"
 "$board" asm "$work/other.s" "$work/other.elf" 2> "$work/err"
 
-# alike NAME COMMAND OPTION..: a command over the object file with data prints what it prints over that of the other text.
+# alike NAME COMMAND OPTION..: a command over the object file with data prints what it prints over that of the other
+# text.
 alike() {
     local name=$1 command=$2
     shift 2
@@ -108,10 +110,12 @@ refused "past the end" 1 "0x80FFFFFE=$work/ho: the file has 4 bytes, which don't
 refused "over other data" 1 "0x8000002B=$work/e: it lies over the bytes of another --data" \
     --data "text=$work/ho" --data "0x8000002B=$work/e"
 refused "a place that isn't printable" 2 "?[31m=a: the object file has no such symbol" --data $'\033[31m=a'
-"$board" run "$work/says.elf" "$work/says.cfg" "$work/says.journal" --data "0x8000FFFF=$work/ho" > "$work/out" 2> "$work/err"
+"$board" run "$work/says.elf" "$work/says.cfg" "$work/says.journal" --data "0x8000FFFF=$work/ho" > "$work/out" \
+    2> "$work/err"
 got=$?
 verdict "data: past the end of RAM" \
-    "$([ $got = 1 ] && grep -q '^board: the boot: ' "$work/err" && [ ! -s "$work/out" ] || echo "status $got; $(cat "$work/err")")"
+    "$([ $got = 1 ] && grep -q '^board: the boot: ' "$work/err" && [ ! -s "$work/out" ] ||
+    echo "status $got; $(cat "$work/err")")"
 "$board" run "$work/missing" "$work/says.cfg" "$work/says.journal" --data "text=$work/ho" > "$work/out" 2> "$work/err"
 check "data: a missing object file" 4 "$work/nothing" \
     "board: can't open $work/missing: No such file or directory (os error 2)" $?
@@ -122,7 +126,7 @@ mv "$work/err" "$work/with"
 verdict "data: no object file" "$([ $got = 1 ] && diff "$work/with" "$work/err" > /dev/null || cat "$work/with")"
 
 # What a compiler makes says where instructions are, and how large a symbol is.
-if have mips-linux-gnu-gcc "data: object files of a compiler"; then
+if have mips-linux-gnu-gcc "data: more than a symbol has"; then
     cat > "$work/sized.c" << 'END'
 char text[4] = "abc";
 int after = 7;
@@ -130,23 +134,28 @@ void main_of(void) { for (;;) after += text[0]; }
 END
     printf 'SECTIONS { . = 0x80000000; .text : { *(.text*) } .data : { *(.data*) *(.sdata*) } /DISCARD/ : { *(*) } }\n' \
         > "$work/sized.ld"
-    mips-linux-gnu-gcc -EB -mips32 -msoft-float -mno-abicalls -fno-pic -G0 -O1 -g -nostdlib -static -Wl,-T,"$work/sized.ld" \
+    mips-linux-gnu-gcc -EB -mips32 -msoft-float -mno-abicalls -fno-pic -G0 -O1 -g -nostdlib -static \
+        -Wl,-T,"$work/sized.ld" \
         -Wl,-e,main_of -Wl,--build-id=none -o "$work/sized.elf" "$work/sized.c" 2> "$work/err" ||
         fail "data: a program in C" "$(cat "$work/err")"
     printf 'BOARD(1, 0x10000);\nCRE_TSK(1, {TA_ACT, 0, main_of, 1, 256, NULL});\n' > "$work/sized.cfg"
     printf '12345' > "$work/five"
-    "$board" run "$work/sized.elf" "$work/sized.cfg" "$work/says.journal" --data "text=$work/five" > "$work/out" 2> "$work/err"
+    "$board" run "$work/sized.elf" "$work/sized.cfg" "$work/says.journal" --data "text=$work/five" > "$work/out" \
+        2> "$work/err"
     check "data: more than a symbol has" 1 "$work/nothing" \
         "board: --data text=$work/five: the file has 5 bytes, and the symbol 4" $?
-    "$board" run "$work/sized.elf" "$work/sized.cfg" "$work/says.journal" --data "main_of=$work/e" > "$work/out" 2> "$work/err"
+    "$board" run "$work/sized.elf" "$work/sized.cfg" "$work/says.journal" --data "main_of=$work/e" > "$work/out" \
+        2> "$work/err"
     mv "$work/out" "$work/wanted"
     head -n 1 "$work/err" > "$work/warned"
     verdict "data: over instructions" \
         "$(diff "$work/warned" - <<< "board: warning: --data main_of=$work/e: it lies over instructions")"
     # Lines of C stand as without data.
-    "$board" trace "$work/sized.elf" "$work/sized.cfg" "$work/says.journal" --to 20 --instructions > "$work/wanted" 2> "$work/err"
+    "$board" trace "$work/sized.elf" "$work/sized.cfg" "$work/says.journal" --to 20 --instructions > "$work/wanted" \
+        2> "$work/err"
     printf 'abc\0' > "$work/same"
-    "$board" trace "$work/sized.elf" "$work/sized.cfg" "$work/says.journal" --to 20 --instructions --data "text=$work/same" \
+    "$board" trace "$work/sized.elf" "$work/sized.cfg" "$work/says.journal" --to 20 \
+        --instructions --data "text=$work/same" \
         > "$work/out" 2> "$work/err"
     check "data: the same bytes" 0 "$work/wanted" "" $?
 fi

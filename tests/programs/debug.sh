@@ -27,8 +27,10 @@ five=$laid/debug_five_words
 cp $five/image.elf "$work/five"
 config=$five/config.cfg
 journal=$five/journal
-printf '%b\n' 'quit ' ' quit' 'quit\r' 'quit\t' 'quit\0' '\0quit' '' ' ' '\t' '\r' '\0' 'next ' 'back\r' 'goto ' 'goto  1' \
-    'goto\t1' 'goto 1 ' ' goto 1' 'goto 1\r' 'goto 1\0' 'break ' 'break  80000008' 'break 80000008 ' 'break 80000008\r' \
+printf '%b\n' 'quit ' ' quit' 'quit\r' 'quit\t' 'quit\0' '\0quit' '' ' ' '\t' '\r' '\0' 'next ' 'back\r' 'goto ' \
+    'goto  1' \
+    'goto\t1' 'goto 1 ' ' goto 1' 'goto 1\r' 'goto 1\0' 'break ' 'break  80000008' 'break 80000008 ' \
+    'break 80000008\r' \
     'watch ' 'watch  80000008' 'watch 80000008\0' 'regs ' 'regs  1' 'regs 1 ' 'regs 1\r' 'mem ' 'mem  80000000' \
     'mem 80000000 ' 'mem 80000000\r' '\0377' '\0303\0251' '\0357\0273\0277next' > "$work/in"
 sed 's/.*/unknown/' <(tr -cd '\n' < "$work/in") > "$work/wanted"
@@ -45,10 +47,12 @@ for missing in 5 6 7; do
     debug "argument $((missing - 4)) is missing" 4 "$work/nothing" \
         "board: can't open $work/nosuch$((missing - 5)): $is_missing" "${arguments[@]}"
 done
-debug "CONFIG is a folder" 4 "$work/nothing" "board: can't read the configuration: $is_directory" "$work/five" / $journal
+debug "CONFIG is a folder" 4 "$work/nothing" "board: can't read the configuration: $is_directory" "$work/five" / \
+    $journal
 debug "IMAGE is a folder" 4 "$work/nothing" "board: can't read the object file: $is_directory" / / /
 debug "JOURNAL is a folder" 4 "$work/nothing" "board: can't read the journal: $is_directory" "$work/five" $config /
-debug "JOURNAL is missing, IMAGE a folder" 4 "$work/nothing" "board: can't open $work/nosuch: $is_missing" / $config "$work/nosuch"
+debug "JOURNAL is missing, IMAGE a folder" 4 "$work/nothing" "board: can't open $work/nosuch: $is_missing" / $config \
+    "$work/nosuch"
 debug "a source for IMAGE" 1 "$work/nothing" \
     "board: the object file: no ELF file: it doesn't begin with the bytes 7F 45 4C 46; it looks like assembler source, which \"board asm\" makes an object file of" \
     $five/source.s $config $journal
@@ -69,7 +73,8 @@ printf 'at 1\nunknown\n' > "$work/wanted"
 debug "as many bytes of commands as there may be" 0 "$work/wanted" "" "$work/five" $config $journal
 echo >> "$work/in"
 echo 'at 1' > "$work/wanted"
-debug "one byte more" 4 "$work/wanted" "board: standard input is longer than 134,217,728 bytes" "$work/five" $config $journal
+debug "one byte more" 4 "$work/wanted" "board: standard input is longer than 134,217,728 bytes" "$work/five" $config \
+    $journal
 
 # Commands that can't be read, and answers that can't be written.
 "$board" debug "$work/five" $config $journal < / > "$work/out" 2> "$work/err"
@@ -112,7 +117,8 @@ asks() {
     exec 5<&-
     verdict "debug: $name" "$wrong"
 }
-asks "one command at a time" 'break 80000008' ok next 'at 2' next 'at 7' next none 'mem 8000000f' fc back 'at 2' stop unknown \
+asks "one command at a time" 'break 80000008' ok next 'at 2' next 'at 7' next none 'mem 8000000f' fc back \
+    'at 2' stop unknown \
     '' unknown 'goto 11' 'past 10' 'regs 2' none 'goto 10' 'at 10' back 'at 7'
 
 # After `quit` nothing is awaited: here the input stays open.
@@ -260,12 +266,14 @@ sed 's/0x10000)/0x1000000)/' $five/config.cfg > "$work/large.cfg"
 printf '%s\n' 'watch 80ffffff' 'goto 9' back 'mem 80ffffff' 'mem 81000000' 'regs 1' > "$work/in"
 printf '%s\n' ok 'at 9' none 00 outside 'pc 80000010' '$29 81000000' > "$work/wanted"
 debug "16 MiB of RAM" 0 "$work/wanted" "" "$work/five" "$work/large.cfg" $five/journal
-(ulimit -v 100000; exec "$board" debug "$work/five" "$work/large.cfg" $five/journal) < "$work/in" > "$work/out" 2> "$work/err"
+(ulimit -v 100000; exec "$board" debug "$work/five" "$work/large.cfg" $five/journal) < "$work/in" > "$work/out" \
+    2> "$work/err"
 check "debug: 16 MiB of RAM in 100,000 KiB" 0 "$work/wanted" "" $?
 
 # Snapshots share the pages that they have alike, and have no room in their tables: of a board that writes to all of 16
 # MiB and has 255 objects of each kind, 97 of them would take 1.8 GiB if each were a whole copy.
-printf '%s\n' 'lui $t0, 0x8000' 'lui $t2, 0x8100' 'ori $t1, $t0, 0x1000' 'more: sw $t1, 0($t1)' 'addiu $t1, $t1, 0x1000' \
+printf '%s\n' 'lui $t0, 0x8000' 'lui $t2, 0x8100' 'ori $t1, $t0, 0x1000' 'more: sw $t1, 0($t1)' \
+    'addiu $t1, $t1, 0x1000' \
     'bne $t1, $t2, more' nop 'b more' 'ori $t1, $t0, 0x1000' > "$work/fill.s"
 assembled "all of 16 MiB" "$work/fill.s"
 {
@@ -276,8 +284,10 @@ assembled "all of 16 MiB" "$work/fill.s"
 } > "$work/large.cfg"
 printf '%s\n' 'board-journal 1' 'S 1 400000' > "$work/journal"
 printf '%s\n' 'goto 400000' 'goto 399999' 'goto 3' 'regs 1' > "$work/in"
-printf '%s\n' 'at 400000' 'at 399999' 'at 3' 'pc 8000000c' '$8 80000000' '$9 80001000' '$10 81000000' '$29 81000000' > "$work/wanted"
-(ulimit -v 160000; exec "$board" debug "$work/image" "$work/large.cfg" "$work/journal") < "$work/in" > "$work/out" 2> "$work/err"
+printf '%s\n' 'at 400000' 'at 399999' 'at 3' 'pc 8000000c' '$8 80000000' '$9 80001000' '$10 81000000' '$29 81000000' \
+    > "$work/wanted"
+(ulimit -v 160000; exec "$board" debug "$work/image" "$work/large.cfg" "$work/journal") < "$work/in" > "$work/out" \
+    2> "$work/err"
 check "debug: 97 snapshots in 160,000 KiB" 0 "$work/wanted" "" $?
 
 # Moves over a long journal, far apart: without snapshots each would do 2,500,000 events. The limit is one of processor
@@ -286,20 +296,22 @@ long=$laid/debug_long_run
 cp $long/image.elf "$work/image"
 awk 'BEGIN { for (i = 0; i < 5000; i++) print "goto " i * 2499997 % 5000001 }' > "$work/in"
 sed 's/goto/at/' "$work/in" > "$work/wanted"
-(ulimit -t 30; exec "$board" debug "$work/image" $long/config.cfg $long/journal) < "$work/in" > "$work/out" 2> "$work/err"
+(ulimit -t 30; exec "$board" debug "$work/image" $long/config.cfg $long/journal) < "$work/in" > "$work/out" \
+    2> "$work/err"
 check "debug: 5,000 far moves in 30 processor seconds" 0 "$work/wanted" "" $?
 
-# Moves to positions that have a snapshot (4,096, 8,192, 12,288: 1, 2 and 3 modulo 5), from behind and from before it, and
-# on from there.
+# Moves to positions that have a snapshot (4,096, 8,192, 12,288: 1, 2 and 3 modulo 5), from behind and from before it,
+# and on from there.
 printf '%s\n' 'break 80000008' 'goto 13000' 'goto 8192' 'regs 1' back 'goto 8192' next 'goto 4096' 'regs 1' next \
     'goto 0' 'goto 12288' 'regs 1' back 'goto 0' 'goto 8192' 'regs 1' next > "$work/in"
-printf '%s\n' ok 'at 13000' 'at 8192' 'pc 80000008' '$29 80010000' 'at 8187' 'at 8192' 'at 8197' 'at 4096' 'pc 80000004' \
+printf '%s\n' ok 'at 13000' 'at 8192' 'pc 80000008' '$29 80010000' 'at 8187' 'at 8192' 'at 8197' 'at 4096' \
+    'pc 80000004' \
     '$29 80010000' 'at 4097' 'at 0' 'at 12288' 'pc 8000000c' '$29 80010000' 'at 12287' 'at 0' 'at 8192' 'pc 80000008' \
     '$29 80010000' 'at 8197' > "$work/wanted"
 debug "moves to positions that have a snapshot" 0 "$work/wanted" "" "$work/image" $long/config.cfg $long/journal
 
 # On a terminal the commands are listed beside the answer to what is none, and elsewhere they aren't.
-if have python3 "debug: help on a terminal"; then
+if have_terminal "debug: help on a terminal"; then
     tests/programs/terminal "typed help" "$work/out" \
         "$board" debug "$work/image" $long/config.cfg $long/journal > "$work/shown"
     got=$?

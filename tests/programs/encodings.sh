@@ -33,7 +33,8 @@ while IFS='|' read -r name word zeros ignored; do
 done < tests/data/encodings.table
 
 # Each mnemonic of the code has a line in the table of encodings, and no other has.
-mnemonics=$(sed -n '/^pub enum .*Op {/,/^}/s/^    \([A-Z][a-z]*\) = 0x[0-9a-f]*,$/\1/p' crates/brd_isa/src/instruction.rt |
+mnemonics=$(sed -n '/^pub enum .*Op {/,/^}/s/^    \([A-Z][a-z]*\) = 0x[0-9a-f]*,$/\1/p' \
+    crates/brd_isa/src/instruction.rt |
     tr 'A-Z' 'a-z'; printf '%s\n' mul jr jalr syscall break sync lui pref)
 table=$(grep -v '^#' tests/data/encodings.table | cut -d'|' -f1)
 verdict "the mnemonics of the code and of encodings.table" \

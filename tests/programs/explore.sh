@@ -25,11 +25,12 @@ events() {
 is_found() {
     [ "$1" = 5 ] || echo -n "; status $1, wanted 5"
     [ "$(cat "$work/err")" = "board: a schedule fails" ] || echo -n "; standard error is '$(head -c 300 "$work/err")'"
-    grep -q '^fails after ' "$work/out" && grep -qE '^ +0  ' "$work/out" || echo -n "; it doesn't say what happens: $(head -c 300 "$work/out")"
+    grep -q '^fails after ' "$work/out" && grep -qE '^ +0  ' "$work/out" ||
+        echo -n "; it doesn't say what happens: $(head -c 300 "$work/out")"
 }
 
-# is_none NUMBER BOUNDS STATUS [ENDED]: what is wrong with a search that should have tried so many schedules, of which so
-# many came to an end (all if left out), and found none.
+# is_none NUMBER BOUNDS STATUS [ENDED]: what is wrong with a search that should have tried so many schedules, of which
+# so many came to an end (all if left out), and found none.
 is_none() {
     local thing=schedules ended=${4:-$1}
     [ "$1" != 1 ] || thing=schedule
@@ -39,8 +40,10 @@ is_none() {
     sed -n 2p "$work/out" | grep -qE '^looked for: .' || echo -n "; it doesn't say what was looked for"
     sed -n 3p "$work/out" | grep -qE "^$ended came to an end, (none was cut|[0-9]+ w(as|ere) cut) short" ||
         echo -n "; it says '$(sed -n 3p "$work/out")', and not $ended"
-    [ "$(sed -n 3p "$work/out" | grep -c 'none was cut short')" = $((ended == $1)) ] || echo -n "; how many were cut short is wrong"
-    [ "$(grep -c '^warning: none came to an end' "$work/out")" = $((ended == 0 && ! fair)) ] || echo -n "; it warns, or doesn't"
+    [ "$(sed -n 3p "$work/out" | grep -c 'none was cut short')" = $((ended == $1)) ] ||
+        echo -n "; how many were cut short is wrong"
+    [ "$(grep -c '^warning: none came to an end' "$work/out")" = $((ended == 0 && ! fair)) ] ||
+        echo -n "; it warns, or doesn't"
 }
 
 # bounds OPTION..: how the bounds of options are told.
@@ -73,7 +76,8 @@ shown() {
     exception) "$board" trace --summary "${files[@]}" | grep -q 'last exception at event' || echo -n "; no exception" ;;
     deadlock) "$board" trace --summary "${files[@]}" | grep -q '^deadlock: ' || echo -n "; no deadlock" ;;
     console*) [ "$("$board" run "${files[@]}" | tail -n 1)" = "${1#console }" ] || echo -n "; another console" ;;
-    *=*) printf '%s\n' "goto $(events "$3")" "mem ${1%=*}" | "$board" debug "${files[@]}" | tail -n 1 | grep -qx "${1#*=}" ||
+    *=*) printf '%s\n' "goto $(events "$3")" "mem ${1%=*}" | "$board" debug "${files[@]}" | tail -n 1 |
+        grep -qx "${1#*=}" ||
         echo -n "; another byte than $1" ;;
     *) echo -n "; the table says '$1'" ;;
     esac
@@ -101,10 +105,12 @@ shrinks() {
     left=$(left_of)
     [ "${left:-99999}" -le "$before" ] || wrong="$wrong; of $before events it says '$(head -n 1 "$work/out")'"
     turns=$(sed -n "1s/^.* events are left, with \([0-9]*\) of $(switches_of "$journal") switches\$/\1/p" "$work/out")
-    [ "${turns:-99999}" -le "$(switches_of "$journal")" ] || wrong="$wrong; of the switches it says '$(head -n 1 "$work/out")'"
+    [ "${turns:-99999}" -le "$(switches_of "$journal")" ] ||
+        wrong="$wrong; of the switches it says '$(head -n 1 "$work/out")'"
     grep -q "fails after $left event" "$work/out" || wrong="$wrong; it says '$(head -n 2 "$work/out")'"
     grep -q ' and the fair end: ' "$work/out" || {
-        [ "$(events "$work/left")" = "$left" ] || wrong="$wrong; $left events are left, and $(events "$work/left") are kept"
+        [ "$(events "$work/left")" = "$left" ] ||
+            wrong="$wrong; $left events are left, and $(events "$work/left") are kept"
         [ "$(switches_of "$work/left")" = "$turns" ] ||
             wrong="$wrong; with $turns switches, and $(switches_of "$work/left") are kept"
     }
@@ -129,15 +135,16 @@ without() {
     done
 }
 
-# finds NAME CONFIG PREEMPTIONS EVENTS SHOWN OPTION..: a schedule is found, with so many preemptions and none with fewer,
-# of so many events where a number is given. Its journal leads to the failure, and so does what is left of it.
+# finds NAME CONFIG PREEMPTIONS EVENTS SHOWN OPTION..: a schedule is found, with so many preemptions and none with
+# fewer, of so many events where a number is given. Its journal leads to the failure, and so does what is left of it.
 finds() {
     local name=$1 config=$2 preemptions=$3 count=$4 how=$5 wrong fewer=()
     shift 5
     rm -f "$work/found"
     explores "$image" "$config" "$@" --out "$work/found"
     wrong=$(is_found $?)
-    [ -z "$count" ] || [ "$(events "$work/found")" = "$count" ] || wrong="$wrong; $(events "$work/found") events, not $count"
+    [ -z "$count" ] || [ "$(events "$work/found")" = "$count" ] ||
+        wrong="$wrong; $(events "$work/found") events, not $count"
     grep -qE "^fails after ($(events "$work/found") events?|[0-9]+ events? and the fair end): " "$work/out" ||
         wrong="$wrong; it says '$(head -n 1 "$work/out")', and the journal has $(events "$work/found") events"
     wrong="$wrong$(shown "$how" "$config" "$work/found")"
@@ -227,7 +234,8 @@ while IFS='|' read -r source config words told how; do
     *,found*)
         assembled "$source"
         explores "$image" "$examples/$config" "${options[@]}" --places 1000000 --out "$work/found"
-        verdict "explore: $source $words, without bounds" "$(is_found $?)$(shown "$how" "$examples/$config" "$work/found")"
+        verdict "explore: $source $words, without bounds" \
+            "$(is_found $?)$(shown "$how" "$examples/$config" "$work/found")"
         ;;
     esac
 done < $examples/cases
@@ -283,7 +291,8 @@ done
 
 # adders LINE..: two tasks add 1 to a word, by these lines; who of them is done last comes to `lost` if it isn't 2.
 adders() {
-    printf '%s\n' '        .equ    ext_tsk, 3' 'count:  .word   0' 'done:   .word   0' 'main:   lui     $s0, %hi(count)' "$@"
+    printf '%s\n' '        .equ    ext_tsk, 3' 'count:  .word   0' 'done:   .word   0' \
+        'main:   lui     $s0, %hi(count)' "$@"
     cat << 'END'
 add:    ll      $t1, %lo(done)($s0)
         addiu   $t1, $t1, 1
@@ -302,7 +311,8 @@ end:    addiu   $v0, $0, ext_tsk
 END
 }
 image=$work/adders.elf
-adders '        lw      $t0, %lo(count)($s0)' '        addiu   $t0, $t0, 1' '        sw      $t0, %lo(count)($s0)' > "$work/adders.s"
+adders '        lw      $t0, %lo(count)($s0)' '        addiu   $t0, $t0, 1' '        sw      $t0, %lo(count)($s0)' \
+    > "$work/adders.s"
 "$board" asm "$work/adders.s" "$image"
 wanted=5 reaches "two tasks that add" $examples/lost_update.cfg lost
 adders 'again:  ll      $t0, %lo(count)($s0)' '        addiu   $t0, $t0, 1' '        sc      $t0, %lo(count)($s0)' \
@@ -368,7 +378,8 @@ ends '"""1""2""3"' "$image" "$work/ended.cfg"
 for bounds in "--places 10000" "--preemptions 2"; do
     read -ra options <<< "$bounds"
     explores "$image" "$work/ended.cfg" --never "shown == 2" "${options[@]}" --out "$work/found"
-    verdict "explore: a task that is ended, $bounds" "$(is_found $?)$(shown 80000007=02 "$work/ended.cfg" "$work/found")"
+    verdict "explore: a task that is ended, $bounds" \
+        "$(is_found $?)$(shown 80000007=02 "$work/ended.cfg" "$work/found")"
 done
 explores "$image" "$work/ended.cfg" --never "shown > 3" --places 10000
 verdict "explore: a task that is ended, none" "$(holds $?)"
@@ -410,11 +421,14 @@ explores "$image" $examples/lost_update.cfg --word 0x7fffffff=0
 verdict "explore: a word that isn't there" "$(is_found $?)"
 explores "$image" $examples/lost_update.cfg --word count=0..2,0x80000000=1..2 --out "$work/found"
 got=$?
-verdict "explore: what fails at once" "$([ $got = 5 ] || echo "status $got")$([ "$(events "$work/found")" = 0 ] || echo "; $(events "$work/found") events")"
+verdict "explore: what fails at once" "$([ $got = 5 ] || echo "status $got")$([ "$(events "$work/found")" = 0 ] ||
+    echo "; $(events "$work/found") events")"
 assembled readers.s
-explores "$image" $examples/readers.cfg --never 'x == y + 1 , 1+writer +writer+ readers >= 0x4' --events 50 --preemptions 2 --shortest
+explores "$image" $examples/readers.cfg --never 'x == y + 1 , 1+writer +writer+ readers >= 0x4' --events 50 \
+    --preemptions 2 --shortest
 wrong=$(is_found $?)
-grep -qE '^fails after .* events: x == y \+ 1, as 1 == 0 \+ 1$' "$work/out" || wrong="$wrong; it says $(head -n 1 "$work/out")"
+grep -qE '^fails after .* events: x == y \+ 1, as 1 == 0 \+ 1$' "$work/out" ||
+    wrong="$wrong; it says $(head -n 1 "$work/out")"
 verdict "explore: a condition that holds" "$wrong"
 explores "$image" $examples/readers.cfg --never 'writer + writer + readers > 2' --events 50 --preemptions 2 --shortest
 wrong=$(is_found $?)
@@ -423,7 +437,8 @@ grep -qE '^fails after 13 events: writer \+ writer \+ readers > 2, as 1 \+ 1 \+ 
 verdict "explore: a condition of several words" "$wrong"
 explores "$image" $examples/readers.cfg --never '4294967295 + 1 <= x' --events 20
 wrong=$(is_none 126 "at most 20 events, 1 preemption, 0 ticks and 0 raises" $? 0)
-[ "$(sed -n 2p "$work/out")" = "looked for: 4294967295 + 1 <= x" ] || wrong="$wrong; it looks for $(sed -n 2p "$work/out")"
+[ "$(sed -n 2p "$work/out")" = "looked for: 4294967295 + 1 <= x" ] ||
+    wrong="$wrong; it looks for $(sed -n 2p "$work/out")"
 verdict "explore: a condition that never holds" "$wrong"
 assembled handoff_right.s
 explores "$image" $examples/handoff.cfg --console '\x41\x42' --events 40
@@ -439,14 +454,16 @@ verdict "explore: a console with a backslash" "$(is_found $?)"
 for most in 1 2; do
     explores "$work/racy" examples/lost_update/racy.cfg --console 9 --ends --preemptions $most --shortest
     wrong=$(is_found $?)
-    [ "$(head -n 1 "$work/out" | cut -d ' ' -f 3)" = $((62 - 2 * most)) ] || wrong="$wrong; it says $(head -n 1 "$work/out")"
+    [ "$(head -n 1 "$work/out" | cut -d ' ' -f 3)" = $((62 - 2 * most)) ] ||
+        wrong="$wrong; it says $(head -n 1 "$work/out")"
     verdict "explore: the shortest with $most preemptions" "$wrong"
 done
 explores "$work/racy" examples/lost_update/racy.cfg --console 9 --ends
 grep -q '^fails after 60 events: the console is "6", not "9"$' "$work/out"
 verdict "explore: what the console is" "$([ $? = 0 ] || head -n 1 "$work/out")"
 assembled interrupt.s
-(ulimit -t 20; exec "$board" explore "$image" $examples/interrupt.cfg --preemptions 100000) < /dev/null > "$work/out" 2> "$work/err"
+(ulimit -t 20; exec "$board" explore "$image" $examples/interrupt.cfg --preemptions 100000) < /dev/null > "$work/out" \
+    2> "$work/err"
 got=$?
 verdict "explore: more preemptions than can help" "$([ $got = 0 ] || echo "status $got")"
 
@@ -463,10 +480,12 @@ got=$?
 verdict "explore: no events, and a fair end" "$([ $got = 5 ] || echo "status $got")"
 assembled lost_update_right.s
 sed 's/0x10000)/0x1000000)/' $examples/lost_update.cfg > "$work/large.cfg"
-(ulimit -v 400000; exec "$board" explore "$image" "$work/large.cfg" --word count=2) < /dev/null > "$work/out" 2> "$work/err"
+(ulimit -v 400000; exec "$board" explore "$image" "$work/large.cfg" --word count=2) < /dev/null > "$work/out" \
+    2> "$work/err"
 verdict "explore: 16 MiB of RAM in 400,000 KiB" \
     "$(is_none 16 "at most 1000 events, 1 preemption, 0 ticks and 0 raises" $?)"
-(ulimit -v 40000; exec "$board" explore "$image" "$work/large.cfg" --word count=2) < /dev/null > "$work/out" 2> "$work/err"
+(ulimit -v 40000; exec "$board" explore "$image" "$work/large.cfg" --word count=2) < /dev/null > "$work/out" \
+    2> "$work/err"
 check "explore: 16 MiB of RAM in 40,000 KiB" 3 "$work/nothing" "board: out of memory" $?
 
 # ---- States that are remembered: the same answer, and fewer schedules
@@ -502,7 +521,8 @@ for of in 1 2 5; do
         explores "$image" $examples/peterson.cfg --word inside=0..1 --events 50 --preemptions 2 --shard "$number/$of" ||
             wrong="$wrong; shard $number: status $?"
         tried=$(sed -n 's/^none of \([0-9]*\) schedules\{0,1\} fails: .*/\1/p' "$work/out")
-        [ $of = 1 ] || grep -qF "$shard_bounds, shard $number of $of" "$work/out" || wrong="$wrong; it says $(cat "$work/out")"
+        [ $of = 1 ] || grep -qF "$shard_bounds, shard $number of $of" "$work/out" ||
+            wrong="$wrong; it says $(cat "$work/out")"
         total=$((total + ${tried:-0} - 1))
         assembled peterson.s
         explores "$image" $examples/peterson.cfg --word inside=0..1 --events 50 --preemptions 2 --shard "$number/$of"
@@ -515,7 +535,8 @@ done
 
 # ---- Seconds: what is known when they are over, and nothing else than without them if they aren't
 
-# is_over STATUS: what is wrong with a search whose time was over after it had found that none fails with some preemptions.
+# is_over STATUS: what is wrong with a search whose time was over after it had found that none fails with some
+# preemptions.
 is_over() {
     [ "$1" = 2 ] || echo -n "; status $1"
     [ ! -s "$work/out" ] || echo -n "; it writes $(head -c 300 "$work/out")"
@@ -528,7 +549,8 @@ verdict "explore: time is over" "$(is_over $?)"
 explores "$image" $examples/peterson.cfg --word inside=0..1 --events 50 --preemptions 2 --time 1000000
 verdict "explore: there is time enough" "$(is_none 836 "at most 50 events, 2 preemptions, 0 ticks and 0 raises" $? 371)"
 assembled peterson.s
-explores "$image" $examples/peterson.cfg --word inside=0..1 --events 50 --preemptions 2 --time 1000000 --out "$work/found"
+explores "$image" $examples/peterson.cfg --word inside=0..1 --events 50 --preemptions 2 --time 1000000 \
+    --out "$work/found"
 verdict "explore: what is found in time" "$(is_found $?)"
 
 # ---- Threads: what one thread says, but which schedule is found
@@ -651,7 +673,8 @@ cp "$work/out" "$work/wanted"
 refuse_each explore 3 "board: out of memory" "$board" explore "$image" $examples/lost_update.cfg --word count=2
 assembled lost_update.s
 "$board" shrink "$image" $examples/lost_update.cfg "$work/found" --word count=2 > "$work/wanted"
-refuse_each shrink 3 "board: out of memory" "$board" shrink "$image" $examples/lost_update.cfg "$work/found" --word count=2
+refuse_each shrink 3 "board: out of memory" "$board" shrink "$image" $examples/lost_update.cfg "$work/found" \
+    --word count=2
 
 # ---- Beside SPIN
 

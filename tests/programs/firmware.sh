@@ -39,13 +39,15 @@ sed -i 's/assert(line == BUTTON)/printf("line %d\\n", line)/' "$work/lost/firmwa
 sed -i 's/0x10000/0x40000/; s/1024/4096/' "$work/lost/firmware.cfg"
 make -s -C "$work/lost" BOARD="$board" LIBC=1 HANDLER_STACK=4096 test > "$work/said" 2>&1
 verdict "the C library, output that is lost" "$(
-    grep -q '^  lost output: 21 characters of handler 3 (BUTTON), printf in press firmware.c:7, first at event ' "$work/said" ||
+    grep -q '^  lost output: 21 characters of handler 3 (BUTTON), printf in press firmware.c:7, first at event ' \
+        "$work/said" ||
         cat "$work/said")"
 
 sed -i 's/^ *printf("line.*/    assert(line != BUTTON);/' "$work/lost/firmware.c"
 make -s -C "$work/lost" BOARD="$board" LIBC=1 HANDLER_STACK=4096 test > "$work/said" 2>&1
 verdict "the C library, an assertion" "$(
-    grep -qxF "firmware.c:7: this doesn't hold: line != BUTTON (handler of line 3 (BUTTON), processor 1)" "$work/said" ||
+    grep -qxF "firmware.c:7: this doesn't hold: line != BUTTON (handler of line 3 (BUTTON), processor 1)" \
+        "$work/said" ||
         cat "$work/said")"
 
 left=$((SECONDS_AT_MOST - (SECONDS - started)))

@@ -8,7 +8,8 @@ have python3 "random and spoiled inputs" || { summary; exit; }
 tells() {
     local name=$1 reason=$2
     shift 2
-    if tests/programs/fuzz "$work/spoiled" --count 12 --keep "$work/kept" --samples "$work/samples" "$@" > "$work/out" 2>&1; then
+    if tests/programs/fuzz "$work/spoiled" --count 12 --keep "$work/kept" --samples "$work/samples" "$@" \
+        > "$work/out" 2>&1; then
         fail "fuzz: $name" "it passes"
     else
         verdict "fuzz: $name" "$(grep -qE "^seed [0-9]+ \([a-z]+\): $reason" "$work/out" || head -n 3 "$work/out")"

@@ -478,7 +478,8 @@ shows() {
             "$board" trace --summary --to $position "$elf" "$cfg" "$journal"; } > "$work/wanted"
         awk '/^@$/ { marks++ } marks >= 1 && marks < 4' "$work/said" > "$work/shown"
         verdict "gdb: the trace and the summary up to $position of ${elf##*/}" \
-            "$([ $(grep -c . "$work/wanted") -ge 7 ] && diff "$work/wanted" "$work/shown" 2>&1 || tail -n 20 "$work/said")"
+            "$([ $(grep -c . "$work/wanted") -ge 7 ] && diff "$work/wanted" "$work/shown" 2>&1 ||
+            tail -n 20 "$work/said")"
     done
 }
 shows 0 1 19 2019 2020 4000 6022 6026
@@ -729,7 +730,8 @@ E01
 OK
 OK
 E01
-T05thread:01;' Z2,80000040,0 Z2,80000040,201 Z2,80000040,200 Z2,80000040,200 Z2,80000040,1 Z3,80000040,1ff Z3,80000044,1 \
+T05thread:01;' Z2,80000040,0 Z2,80000040,201 Z2,80000040,200 Z2,80000040,200 Z2,80000040,1 Z3,80000040,1ff \
+    Z3,80000044,1 \
     Z3,80000046,1 z3,80000040,1ff Z3,80000040,1ff Z4,80000040,ffffffff "vCont;s:1"
 # Steps of a thread that is named, of one that is chosen by Hg, by T, and by a stop.
 replies "whose step it is" 'OK

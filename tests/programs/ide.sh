@@ -13,8 +13,8 @@ new=$work/new
 "$sdk/new" "$new" > "$work/out"
 export BOARD=$board
 
-# One command after the other for GDB's machine interface, as an editor sends them: the next once the answer is there, and
-# where that is `^running` once something has stopped. It prints what GDB says.
+# One command after the other for GDB's machine interface, as an editor sends them: the next once the answer is there,
+# and where that is `^running` once something has stopped. It prints what GDB says.
 cat > "$work/editor.py" << 'END'
 import subprocess, sys
 gdb = subprocess.Popen(["gdb-multiarch", "-nx", "-q", "-i=mi"], stdin=subprocess.PIPE, stdout=subprocess.PIPE,
@@ -104,7 +104,8 @@ for pattern, text in zip(patterns, texts):
 END
 )"
 make -s -C "$new" gdb-server > "$work/out" 2>&1
-verdict "make gdb-server" "$([ "$(cat "$work/out")" = build/gdb-server ] && [ -x "$new/build/gdb-server" ] || cat "$work/out")"
+verdict "make gdb-server" "$([ "$(cat "$work/out")" = build/gdb-server ] && [ -x "$new/build/gdb-server" ] ||
+    cat "$work/out")"
 launch=$new/.vscode/launch.json
 session "Visual Studio Code, by the program" "$new" '^\^connected' "${answered[@]}" < <(
     settings "$launch" firmware.journal customLaunchSetupCommands

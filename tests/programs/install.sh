@@ -1,7 +1,7 @@
 #!/bin/bash
-# The installation, and other tools with the kit for C: tests/programs/install.sh PROGRAM. What `make install` puts below
-# a prefix, what of it works there without the clone, what `make uninstall` leaves; the package of Debian; pages of the
-# manual and completions beside the help texts; projects by make and by CMake with the installed kit.
+# The installation, and other tools with the kit for C: tests/programs/install.sh PROGRAM. What `make install` puts
+# below a prefix, what of it works there without the clone, what `make uninstall` leaves; the package of Debian; pages
+# of the manual and completions beside the help texts; projects by make and by CMake with the installed kit.
 . "$(dirname "$0")/check.sh"
 for tool in python3 make; do
     have "$tool" "the installation" || { summary; exit; }
@@ -69,7 +69,8 @@ if have groff "the manual's form"; then
     verdict "the manual's form" "$(for page in "$prefix"/share/man/man1/*.1; do
         groff -man -Tutf8 -ww -z "$page" 2>&1
     done)"
-    groff -man -Tutf8 -rLL=120n "$prefix/share/man/man1/board-explore.1" | sed 's/\x1b\[[0-9;]*m//g; s/.\x08//g' > "$work/page"
+    groff -man -Tutf8 -rLL=120n "$prefix/share/man/man1/board-explore.1" |
+        sed 's/\x1b\[[0-9;]*m//g; s/.\x08//g' > "$work/page"
     verdict "the manual's text" "$(
         grep -q 'Fails where the console differs from TEXT, in which \\n, \\t, \\\\ and \\xHH stand for' "$work/page" &&
             grep -q '^ *board explore \[OPTIONS\] <IMAGE> <CONFIG>$' "$work/page" || cat "$work/page")"
@@ -97,7 +98,8 @@ if have zsh "completions for zsh"; then
     wrong=
     for it in $commands; do
         zsh -fc '_arguments() { print -rl -- "$@"; }; _describe() { :; }; words=(board "$2" -); CURRENT=3
-            tried() { source "$1"; }; tried "$1"' - "$prefix/share/zsh/site-functions/_board" "$it" | sed -n 's/^\(--[a-z-]*\)\[.*/\1/p' > "$work/out"
+            tried() { source "$1"; }; tried "$1"' - "$prefix/share/zsh/site-functions/_board" "$it" |
+                sed -n 's/^\(--[a-z-]*\)\[.*/\1/p' > "$work/out"
         options "$it" | diff - "$work/out" > "$work/differs" || wrong="$wrong; $it: $(cat "$work/differs")"
     done
     verdict "zsh completes the options of each command" "$wrong"
@@ -105,7 +107,8 @@ fi
 if have pkg-config "pkg-config"; then
     verdict "pkg-config" "$(export PKG_CONFIG_PATH=$prefix/share/pkgconfig
         [ "$(pkg-config --modversion board)" = "$("$board" --version | cut -d ' ' -f 2)" ] &&
-            [ -e "$(pkg-config --variable=sdkdir board | sed 's/\\ / /g')/board.mk" ] || pkg-config --variable=sdkdir board)"
+            [ -e "$(pkg-config --variable=sdkdir board | sed 's/\\ / /g')/board.mk" ] ||
+            pkg-config --variable=sdkdir board)"
 fi
 version=$("$board" --version | cut -d ' ' -f 2)
 verdict "one version" "$(
@@ -116,7 +119,8 @@ verdict "one version" "$(
 # ---- the package
 
 if have dpkg-deb "the package"; then
-    verdict "make package" "$([ $packaged = 0 ] && diff <(echo "$work/board.deb") "$work/packaged" || cat "$work/packaged")"
+    verdict "make package" "$([ $packaged = 0 ] && diff <(echo "$work/board.deb") "$work/packaged" ||
+        cat "$work/packaged")"
     verdict "the same clone makes the same package" "$(cmp "$work/board.deb" "$work/again.deb")"
     mkdir "$work/unpacked"
     dpkg-deb -x "$work/board.deb" "$work/unpacked" && dpkg-deb -f "$work/board.deb" > "$work/control"
@@ -124,18 +128,22 @@ if have dpkg-deb "the package"; then
     verdict "what the package is" "$(
         grep -qx "Version: $("$board" --version | cut -d ' ' -f 2)" "$work/control" &&
             grep -qx "Depends: libc6 (>= ${wanted#GLIBC_})" "$work/control" &&
-            cmp "$board" "$work/unpacked/usr/bin/board" && (cd "$work/unpacked" && dpkg-deb --ctrl-tarfile "$work/board.deb" |
+            cmp "$board" "$work/unpacked/usr/bin/board" && (cd "$work/unpacked" &&
+            dpkg-deb --ctrl-tarfile "$work/board.deb" |
                 tar xO ./md5sums | md5sum --quiet -c) || cat "$work/control")"
     verdict "the package has what make install puts there" "$(
-        diff <(cd "$prefix" && find . ! -type d | grep -v '/other\.1$' | sort) <(cd "$work/unpacked/usr" && find . ! -type d | sed 's/\.1\.gz$/.1/' | sort))"
+        diff <(cd "$prefix" && find . ! -type d | grep -v '/other\.1$' | sort) <(cd "$work/unpacked/usr" &&
+            find . ! -type d | sed 's/\.1\.gz$/.1/' | sort))"
     if [ "$(id -u)" = 0 ]; then
         mkdir -p "$work/root/var/lib/dpkg/updates" "$work/root/var/lib/dpkg/info" "$work/root/var/lib/dpkg/triggers"
         : > "$work/root/var/lib/dpkg/status"
         : > "$work/root/var/lib/dpkg/available"
-        dpkg --root="$work/root" --log=/dev/null --force-depends --force-script-chrootless -i "$work/board.deb" > "$work/out" 2>&1
+        dpkg --root="$work/root" --log=/dev/null --force-depends --force-script-chrootless -i "$work/board.deb" \
+            > "$work/out" 2>&1
         verdict "dpkg -i" "$("$work/root/usr/bin/board" --version | diff - <("$board" --version) || cat "$work/out")"
         dpkg --root="$work/root" --log=/dev/null --force-depends -r board > "$work/out" 2>&1
-        verdict "dpkg -r" "$([ ! -e "$work/root/usr/bin/board" ] && [ ! -e "$work/root/usr/share/board" ] || cat "$work/out")"
+        verdict "dpkg -r" "$([ ! -e "$work/root/usr/bin/board" ] && [ ! -e "$work/root/usr/share/board" ] ||
+            cat "$work/out")"
     else
         skip "dpkg -i" "the rights of root"
     fi
@@ -152,10 +160,12 @@ new=$work/new
 verdict "board-new" "$(grep -qx "SDK = $prefix/share/board/sdk" "$new/Makefile" || cat "$work/out" "$new/Makefile")"
 verdict "board-new: the files for an editor" "$(diff -r sdk/project/.vscode "$new/.vscode")"
 make -s -C "$new" ci > "$work/out" 2>&1 < "$work/nothing"
-verdict "a project with the installed kit" "$([ $? = 0 ] && [ "$(grep -c '^ok: ' "$work/out")" = 3 ] || cat "$work/out")"
+verdict "a project with the installed kit" "$([ $? = 0 ] && [ "$(grep -c '^ok: ' "$work/out")" = 3 ] ||
+    cat "$work/out")"
 make -s -C "$new" test LIBC=1 > "$work/out" 2>&1 < "$work/nothing"
 verdict "where it looks for a C library" "$(
-    grep -q "^there is no C library for ORDER=big yet, which this makes: $prefix/share/board/sdk/libc big\$" "$work/out" &&
+    grep -q "^there is no C library for ORDER=big yet, which this makes: $prefix/share/board/sdk/libc big\$" \
+        "$work/out" &&
         [ "$(make -s -C "$new" settings | tail -n 1)" = "$HOME/.cache/board/libc/big" ] || cat "$work/out")"
 verdict "nothing was written into the kit" "$(find "$prefix" -newer "$new/Makefile" -type f)"
 

@@ -52,7 +52,8 @@ encoding() {
     for piece in "${pieces[@]:1}"; do
         piece=${piece# }
         case $piece in
-            'rt = rd, '*) word=$((word | operand[rd] << place[rt])) zeros=$((zeros | 31 << place[rt] | 31 << place[rd])) piece=${piece#rt = rd, } ;;
+            'rt = rd, '*) word=$((word | operand[rd] << place[rt])) \
+                zeros=$((zeros | 31 << place[rt] | 31 << place[rd])) piece=${piece#rt = rd, } ;;
         esac
         case $piece in
             'sa ignored'*) ignored=$((ignored | 31 << place[sa])) ;;
@@ -62,7 +63,8 @@ encoding() {
             *' 0')
                 for field in ${piece% 0}; do
                     field=${field%,}
-                    if [ -n "${place[$field]:-}" ]; then zeros=$((zeros | 31 << place[$field])); else complain "$name: the field $field"; fi
+                    if [ -n "${place[$field]:-}" ]; then zeros=$((zeros | 31 << place[$field])); \
+                        else complain "$name: the field $field"; fi
                 done
                 ;;
             *) complain "$name: '$piece'" ;;

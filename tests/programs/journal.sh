@@ -49,7 +49,8 @@ makes "a raise late in a long one" "S 1 19999999,R 4 1,S 1 1" 1 20000001 --raise
 verdict "journal: as many lines as run takes" "$([ "$(wc -l < "$work/longest")" = 4194305 ] || wc -l < "$work/longest")"
 "$board" asm examples/hello/hello.s "$work/hello"
 "$board" run "$work/hello" examples/hello/hello.cfg "$work/longest" > "$work/out" 2> "$work/err"
-verdict "journal: run takes so many lines" "$(grep -qx 'events 4194304' "$work/out" || head -n 2 "$work/out" "$work/err")"
+verdict "journal: run takes so many lines" "$(grep -qx 'events 4194304' "$work/out" ||
+    head -n 2 "$work/out" "$work/err")"
 "$board" journal 2 4194305 > "$work/out" 2> "$work/err"
 check "journal: one line more" 2 "$work/nothing" "board: the journal needs more than 4194304 runs" $?
 # Journals that are drawn, as tests/model/schedules.py has them.
@@ -144,13 +145,15 @@ shares() {
 shares "all alike" 4500 5500 --random 1 --switch 1000
 shares "three to one" 7000 8000 --random 1 --switch 1000 --weights 3,1
 "$board" journal 8 10000 --random 4 --pct 6 | awk '$1 == "S"' > "$work/steps"
-verdict "journal: at most six changes" "$([ "$(wc -l < "$work/steps")" -le 7 ] || echo "$(wc -l < "$work/steps") stretches")"
+verdict "journal: at most six changes" "$([ "$(wc -l < "$work/steps")" -le 7 ] ||
+    echo "$(wc -l < "$work/steps") stretches")"
 
 if [ -e /dev/full ]; then
     "$board" journal 2 9 > /dev/full 2> "$work/err"
     got=$?
     : > "$work/out"
-    check "journal: a full output" 4 "$work/nothing" "board: can't write the output: No space left on device (os error 28)" $got
+    check "journal: a full output" 4 "$work/nothing" \
+        "board: can't write the output: No space left on device (os error 28)" $got
 fi
 
 # ---- --version

@@ -70,13 +70,16 @@ for lab in 1 2 3 4 5; do
     done
     looked "lines that end as on Windows" $lab 0 <<< "lab $lab: nothing is missing"
     solved $lab
-    for arguments in "" "--seed x $work/mine" "--seed $work/mine" "--points $work/nosuch $work/mine" "--other 1 $work/mine"; do
+    for arguments in "" "--seed x $work/mine" "--seed $work/mine" "--points $work/nosuch $work/mine" \
+        "--other 1 $work/mine"; do
         # shellcheck disable=SC2086
         "examples/labs/$lab/check" $arguments > "$work/out" 2> "$work/err"
-        check "lab $lab: a wrong command line: $arguments" 2 "$work/nothing" "use: examples/labs/$lab/check $use $lab is" $?
+        check "lab $lab: a wrong command line: $arguments" 2 "$work/nothing" \
+            "use: examples/labs/$lab/check $use $lab is" $?
     done
     BOARD=$work/nosuch "examples/labs/$lab/check" "$work/mine" > "$work/out" 2> "$work/err"
-    check "lab $lab: no program" 2 "$work/nothing" "there is no program $work/nosuch: make demo, in the clone's folder" $?
+    check "lab $lab: no program" 2 "$work/nothing" \
+        "there is no program $work/nosuch: make demo, in the clone's folder" $?
     rm "$work/mine/lab.s"
     refused "no source" $lab "there is no lab.s in $work/mine"
     begun $lab
@@ -84,7 +87,8 @@ for lab in 1 2 3 4 5; do
     refused "a source that isn't assembled" $lab "lab.s: board: the source: line "
 done
 
-# Points: by the teachers' file all of them for the solution, and of another file what it says of parts that aren't lost.
+# Points: by the teachers' file all of them for the solution, and of another file what it says of parts that aren't
+# lost.
 solved 1
 examples/labs/1/check --seed 7 --points examples/labs/teachers/points "$work/mine" > "$work/out" 2> "$work/err"
 status=$?
@@ -100,7 +104,8 @@ rm "$work/mine/lab.s"
 examples/labs/3/check --points "$work/points" "$work/mine" > "$work/out" 2> "$work/err"
 verdict "points: no source" "$(grep -qx 'lab 3: 0 of 15 points' "$work/out" || tail -n 2 "$work/out")"
 for lab in 1 2 3 4 5; do
-    sed -nE '/^#/d; s/^.*(missing|none_fails) "?([a-z_]+)[". ].*/\2/p' examples/labs/$lab/check | grep -vxE 'all|end|data' | sort -u > "$work/parts"
+    sed -nE '/^#/d; s/^.*(missing|none_fails) "?([a-z_]+)[". ].*/\2/p' examples/labs/$lab/check |
+        grep -vxE 'all|end|data' | sort -u > "$work/parts"
     sed -nE "s/^$lab ([a-z_]+).*/\1/p" examples/labs/teachers/points | sort -u > "$work/worth"
     verdict "points: the parts of lab $lab" "$(diff "$work/parts" "$work/worth")"
 done
@@ -421,8 +426,8 @@ instead() {
         sed 's/<br>/\n/g' | tr -d '\140'
 }
 
-# written SHOWN T0 T1 T2 LEFT: what is written of SHOWN, a register or a word, or where LEFT is a branch of whether it is
-# taken, by a program that has these values in $t0 to $t2, and then the right column.
+# written SHOWN T0 T1 T2 LEFT: what is written of SHOWN, a register or a word, or where LEFT is a branch of whether it
+# is taken, by a program that has these values in $t0 to $t2, and then the right column.
 written() {
     {
         printf 'main: '

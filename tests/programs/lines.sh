@@ -22,7 +22,8 @@ while IFS='|' read -r kind source other before; do
         ;;
     =)
         wrong=
-        { assembles "$before\n$source" "$work/object" && assembles "$before\n$other" "$work/wanted"; } || wrong="; $(cat "$work/err")"
+        { assembles "$before\n$source" "$work/object" && assembles "$before\n$other" "$work/wanted"; } ||
+            wrong="; $(cat "$work/err")"
         cmp -s "$work/object" "$work/wanted" || wrong="$wrong; another object file than that of '$other'"
         verdict "lines: '$source'" "$wrong"
         ;;

@@ -2,7 +2,8 @@
 # What the program says of mistakes: tests/programs/messages.sh PROGRAM. messages.table has one a line: the kind of
 # text, a name for the mistake, the text as `printf %b` reads it, and the message after `board: `. A text is a source
 # (s), a configuration (c) or a journal (j) beside a right object file, configuration and journal, or a source whose
-# object file is written all the same (w), of which there is a warning or nothing, or of which `try` has such a line (t).
+# object file is written all the same (w), of which there is a warning or nothing, or of which `try` has such a line
+# (t).
 . "$(dirname "$0")/check.sh"
 
 example=examples/hello/hello

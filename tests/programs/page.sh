@@ -113,7 +113,7 @@ if have python3 "page: its data"; then
 fi
 chromium=$(command -v chromium || command -v chromium-browser || command -v google-chrome)
 if [ -z "$chromium" ] || ! command -v python3 > /dev/null; then
-    skip "pages in a browser" chromium
+    skip "page: moves in a browser" chromium
 else
     while read -r word name wrong; do
         name=${name%:}

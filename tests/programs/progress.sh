@@ -1,7 +1,7 @@
 #!/bin/bash
 # How far a long command is, on a terminal, and how Ctrl-C ends it: tests/programs/progress.sh PROGRAM.
 . "$(dirname "$0")/check.sh"
-have python3 "progress" || { summary; exit; }
+have_terminal "progress" || { summary; exit; }
 printf 'main: addiu $t0, $t0, 1\nj main\nnop\n' > "$work/source"
 echo 'BOARD(1, 0x10000); CRE_TSK(1, {TA_ACT, 0, main, 1, 256, NULL});' > "$work/config"
 printf 'board-journal 1\nS 1 30\n' > "$work/short"
@@ -26,8 +26,8 @@ on_terminal() {
     grep -qE "^b'$pattern'\$" "$work/shown" || echo -n "; the terminal shows $(head -c 600 "$work/shown")"
 }
 
-# without_terminal COMMAND ARGUMENT..: what is wrong with the command without a terminal: another output, or something on
-# standard error.
+# without_terminal COMMAND ARGUMENT..: what is wrong with the command without a terminal: another output, or something
+# on standard error.
 without_terminal() {
     "$board" "$@" < "$input" > "$work/plain" 2> "$work/err"
     cmp -s "$work/out" "$work/plain" || echo -n "; another output than without a terminal"
@@ -45,8 +45,8 @@ shows() {
     verdict "progress: $name" "$wrong"
 }
 
-# shows_long NAME COMMAND ARGUMENT..: runs a command on a terminal under the journal $work/long, which gets longer until it
-# takes so long that it is shown how far it is. Without a terminal nothing is shown, and the output is the same. What
+# shows_long NAME COMMAND ARGUMENT..: runs a command on a terminal under the journal $work/long, which gets longer until
+# it takes so long that it is shown how far it is. Without a terminal nothing is shown, and the output is the same. What
 # `debug` reads leads to the journal's end.
 shows_long() {
     local name=$1 wrong events

@@ -17,7 +17,8 @@ records() {
     local name=$1
     shift
     { echo "board-journal 2 $order"; [ $# = 0 ] || printf '%s\n' "$@"; } > "$work/lines"
-    verdict "race: $name" "$(cmp -s "$journal" "$work/lines" || echo "the journal has $(head -n 5 "$journal" | tr '\n' ';')")"
+    verdict "race: $name" "$(cmp -s "$journal" "$work/lines" ||
+        echo "the journal has $(head -n 5 "$journal" | tr '\n' ';')")"
 }
 
 # counted LINE: the sum of the counts of the journal's runs that begin so.
@@ -27,7 +28,8 @@ counted() {
 
 # replays IMAGE CONFIG SCRIPT QUOTA: what is wrong with a race and with `board run` of its journal, or nothing.
 replays() {
-    "$board" race "$1" "$2" "$3" "$4" "$journal" > "$work/raced" 2>&1 || echo -n "; the race fails: $(head -n 1 "$work/raced")"
+    "$board" race "$1" "$2" "$3" "$4" "$journal" > "$work/raced" 2>&1 ||
+        echo -n "; the race fails: $(head -n 1 "$work/raced")"
     "$board" run "$1" "$2" "$journal" > "$work/ran" 2>&1 || echo -n "; its journal fails: $(head -n 1 "$work/ran")"
     cmp -s "$work/raced" "$work/ran" || echo -n "; another report"
 }
@@ -46,7 +48,8 @@ printf 'BOARD(1, 0x10000);\nCRE_TSK(1, {TA_ACT, 0, _start, 1, 256, NULL});\n' > 
 printf 'T 2\nR 31 3\nT 1\n' > "$work/script"
 # report EVENTS TICK PC: the report of the endless loop on one processor.
 report() {
-    printf 'events %s\ntick %s\noff 0\ncpu 1 task 1 pc %s\ntask 1 ready pri 1 cpu 1\nconsole 0\n\n' "$@" > "$work/report"
+    printf 'events %s\ntick %s\noff 0\ncpu 1 task 1 pc %s\ntask 1 ready pri 1 cpu 1\nconsole 0\n\n' "$@" \
+        > "$work/report"
 }
 report 0 0 80000000
 race "no steps and an empty script" 0 "$work/report" "" "$work/loop" "$work/one" "$work/nothing" 0
@@ -72,7 +75,8 @@ report 1000006 3 80000000
 race "the greatest quota" 0 "$work/report" "" "$work/loop" "$work/one" "$work/script" 1000000
 verdict "race: the greatest quota: its steps" "$([ "$(counted 'S 1')" = 1000000 ] || echo "there are $(counted 'S 1')")"
 verdict "race: the greatest quota: its script" \
-    "$([ "$(grep -v '^[bS]' "$journal" | cut -d ' ' -f 1 | uniq | tr -d '\n')" = TRT ] || echo "it came in another order")"
+    "$([ "$(grep -v '^[bS]' "$journal" | cut -d ' ' -f 1 | uniq | tr -d '\n')" = TRT ] ||
+    echo "it came in another order")"
 
 # ---- what holds in every race
 
@@ -101,8 +105,8 @@ done
 verdict "race: a counter, a hundred times" "${wrong:0:600}"
 verdict "race: a counter: the board goes off" "$([ "$offs" -gt 0 ] || echo "it never does")"
 
-# Processors add to one word under a spin lock, fifty times each. However they race, nothing is lost: the journal's word is
-# the sum, if all came to their end.
+# Processors add to one word under a spin lock, fifty times each. However they race, nothing is lost: the journal's word
+# is the sum, if all came to their end.
 "$board" asm tests/data/locked/adders.s "$work/adders"
 wrong=""
 ends=0
@@ -113,7 +117,8 @@ for turn in {1..30}; do
     [ "$(grep -c '^cpu [1-8] idle$' "$work/raced")" = $cpus ] || continue
     ends=$((ends + 1))
     events=$(sed -n 's/^events //p' "$work/raced")
-    count=$(printf 'goto %s\nmem 80001002\nmem 80001003\n' "$events" | "$board" debug "$work/adders" "$config" "$journal" | tail -n 2)
+    count=$(printf 'goto %s\nmem 80001002\nmem 80001003\n' "$events" |
+        "$board" debug "$work/adders" "$config" "$journal" | tail -n 2)
     sum=$(printf '%04x' $((50 * cpus)))
     [ "${count//$'\n'/}" = "$sum" ] || wrong="$wrong; $cpus processors: the word is ${count//$'\n'/}, wanted $sum"
 done
@@ -127,9 +132,11 @@ cp "$work/script" "$journal"
 for missing in 0 1 2; do
     arguments=("$work/loop" "$work/one" "$work/script")
     for ((i = missing; i < 3; i++)); do arguments[i]=$work/nosuch$i; done
-    race "argument $((missing + 1)) is missing" 4 "$work/nothing" "board: can't open $work/nosuch$missing: $is_missing" \
+    race "argument $((missing + 1)) is missing" 4 "$work/nothing" \
+        "board: can't open $work/nosuch$missing: $is_missing" \
         "${arguments[@]}" 1
-    verdict "race: argument $((missing + 1)) is missing: OUT" "$(cmp -s "$journal" "$work/script" || echo "it has changed")"
+    verdict "race: argument $((missing + 1)) is missing: OUT" "$(cmp -s "$journal" "$work/script" ||
+        echo "it has changed")"
 done
 journal=$work/nosuch/journal
 race "OUT can't be created" 4 "$work/nothing" "board: can't open $journal: $is_missing" "$work/script" / / 1
@@ -145,8 +152,10 @@ for fault in "${faults[@]}"; do
     printf 'board-journal 1\n' > "$work/another"
     for ((i = place; i < 3; i++)); do arguments[i]=$work/another; done
     cp "$work/script" "$journal"
-    race "a journal as argument $((place + 1))" 1 "$work/nothing" "board: $fault; it looks like a journal" "${arguments[@]}" 1
-    verdict "race: a journal as argument $((place + 1)): OUT" "$([ -e "$journal" ] && [ ! -s "$journal" ] || echo "it isn't empty")"
+    race "a journal as argument $((place + 1))" 1 "$work/nothing" "board: $fault; it looks like a journal" \
+        "${arguments[@]}" 1
+    verdict "race: a journal as argument $((place + 1)): OUT" "$([ -e "$journal" ] && [ ! -s "$journal" ] ||
+        echo "it isn't empty")"
     place=$((place + 1))
 done
 race "IMAGE is a folder" 4 "$work/nothing" "board: can't read the object file: $is_directory" / / / 1
@@ -201,14 +210,16 @@ refuse_each "board race" 3 "board: out of memory" "$board" race "$work/loop" "$w
 report 100 0 80000000
 for count in one eight; do
     printf 'something else' > "$journal"
-    (ulimit -v 60000; exec "$board" race "$work/loop" "$work/$count" "$work/nothing" 100 "$journal") > "$work/out" 2> "$work/err"
+    (ulimit -v 60000; exec "$board" race "$work/loop" "$work/$count" "$work/nothing" 100 "$journal") > "$work/out" \
+        2> "$work/err"
     got=$?
     if [ $count = one ]; then
         check "race: threads that can be started" 0 "$work/report" "" $got
         records "threads that can be started" "S 1 100"
     else
         check "race: threads that can't be started" 3 "$work/nothing" "board: out of memory" $got
-        verdict "race: threads that can't be started: OUT" "$([ -e "$journal" ] && [ ! -s "$journal" ] || echo "it isn't empty")"
+        verdict "race: threads that can't be started: OUT" "$([ -e "$journal" ] && [ ! -s "$journal" ] ||
+            echo "it isn't empty")"
     fi
 done
 

@@ -9,7 +9,8 @@
 while read -r example count; do
     "$board" asm "examples/$example.s" "$work/image"
     "$board" trace --races "$work/image" "examples/$example.cfg" "examples/$example.journal" > "$work/out" 2>&1
-    verdict "races: examples/$example" "$(tail -n 1 "$work/out" | grep -qE "^races: $count words?\$" || cat "$work/out")"
+    verdict "races: examples/$example" "$(tail -n 1 "$work/out" | grep -qE "^races: $count words?\$" ||
+        cat "$work/out")"
 done << 'END'
 data_queue/data_queue 0
 deadlock/deadlock 0
@@ -23,8 +24,8 @@ spin_lock/spin_lock 0
 two_tasks/two_tasks 0
 END
 
-# Two tasks store into the same 131,072 words. A minute of processor time is enough by far: only a program that goes through
-# all races that it has found, for each touch, takes more.
+# Two tasks store into the same 131,072 words. A minute of processor time is enough by far: only a program that goes
+# through all races that it has found, for each touch, takes more.
 cat > "$work/many.s" << 'END'
 one:    lui $s0, %hi(words)
         addiu $s0, $s0, %lo(words)

@@ -70,9 +70,11 @@ for missing in 5 6 7; do
     run "argument $((missing - 4)) is missing" 4 "$work/nothing" \
         "board: can't open $work/nosuch$((missing - 5)): $is_missing" "${arguments[@]}"
 done
-run "CONFIG is a folder" 4 "$work/nothing" "board: can't read the configuration: $is_directory" "$work/hello" / $hello/journal
+run "CONFIG is a folder" 4 "$work/nothing" "board: can't read the configuration: $is_directory" "$work/hello" / \
+    $hello/journal
 run "IMAGE is a folder" 4 "$work/nothing" "board: can't read the object file: $is_directory" / / /
-run "JOURNAL is a folder" 4 "$work/nothing" "board: can't read the journal: $is_directory" "$work/hello" $hello/config.cfg /
+run "JOURNAL is a folder" 4 "$work/nothing" "board: can't read the journal: $is_directory" "$work/hello" \
+    $hello/config.cfg /
 
 # A file in the place of another. Fields: the argument, counted from 0; the file; what it looks like, where that is
 # another kind than it should be of, or that it is empty; the fault where that is another one.
@@ -91,7 +93,8 @@ source='; it looks like assembler source, which "board asm" makes an object file
 while IFS='|' read -r place file looks fault; do
     arguments=("$work/hello" $hello/config.cfg $hello/journal)
     arguments[place]=$file
-    run "$(basename "$file") as argument $((place + 1))" 1 "$work/nothing" "board: ${fault:-${faults[place]}$looks}" "${arguments[@]}"
+    run "$(basename "$file") as argument $((place + 1))" 1 "$work/nothing" "board: ${fault:-${faults[place]}$looks}" \
+        "${arguments[@]}"
 done << END
 0|$hello/config.cfg|; it looks like a configuration
 0|$work/comments|; it looks like a configuration
@@ -117,7 +120,8 @@ done << END
 2|$work/bytes||the journal: line 1, column 1: the first line is \`board-journal 2 big\` or \`board-journal 2 little\`, found nop?
 2|$work/nothing|; it is empty
 END
-run "all three turned round" 1 "$work/nothing" "board: ${faults[0]}; it looks like a journal" $hello/journal "$work/hello" $hello/config.cfg
+run "all three turned round" 1 "$work/nothing" "board: ${faults[0]}; it looks like a journal" $hello/journal \
+    "$work/hello" $hello/config.cfg
 
 # Warnings, with the same report all the same: a processor that isn't there, and a journal with which nothing starts.
 { cat $hello/journal; printf 'S 2 3\nS 0 1\n'; } > "$work/journal"
@@ -167,7 +171,8 @@ echo 'S 1 1' >> "$work/journal"
 run "4,194,305 runs" 1 "$work/nothing" "board: the journal: line 4194306: with this line there are more than 4194304 runs, which is the limit" \
     "$work/hello" $hello/config.cfg "$work/journal"
 echo 'S 1 1 ' >> "$work/journal"
-run "a wrong line behind 4,194,305 runs" 1 "$work/nothing" "board: the journal: line 4194306: with this line there are more than 4194304 runs, which is the limit" \
+run "a wrong line behind 4,194,305 runs" 1 "$work/nothing" \
+    "board: the journal: line 4194306: with this line there are more than 4194304 runs, which is the limit" \
     "$work/hello" $hello/config.cfg "$work/journal"
 rm "$work/journal"
 
@@ -224,7 +229,8 @@ if [ "$can_refuse" = yes ]; then
     late=$(sed -n '/^off/p' "$work/out")
     wrong=
     [ "$early, $late" = "off 1, off 0" ] || wrong="; the board is $early, and $late"
-    [ "$few" -gt 100 ] && [ "$((few + 1))" = "$many" ] || wrong="$wrong; $few growths with few events, $many with 100,000"
+    [ "$few" -gt 100 ] && [ "$((few + 1))" = "$many" ] ||
+        wrong="$wrong; $few growths with few events, $many with 100,000"
     verdict "run: an event takes no memory" "$wrong"
     # All kinds of events are among them: one of each is at a position where the board shows it.
     printf 'break %s\nnext\n' 8000001c 80000154 80000158 800000cc 800000fc 80000140 > "$work/in"

@@ -1,6 +1,6 @@
 #!/bin/bash
-# What the kit for C makes of what `board` prints, and what it judges by itself: tests/programs/shown.sh PROGRAM. Names of
-# the configuration, files and lines of C; assertions; searches and hunts that end when their time is over; a
+# What the kit for C makes of what `board` prints, and what it judges by itself: tests/programs/shown.sh PROGRAM. Names
+# of the configuration, files and lines of C; assertions; searches and hunts that end when their time is over; a
 # configuration that the board doesn't take.
 . "$(dirname "$0")/check.sh"
 sdk=$PWD/sdk
@@ -45,7 +45,8 @@ have mips-linux-gnu-gcc "what the kit shows" || { summary; exit; }
 
 # project FOLDER ARGUMENT..: make in the folder of a project, which leaves $work/out and $work/err.
 project() {
-    make -s -C "$1" SDK="$sdk" BOARD="$board" BUILD="$work/build" "${@:2}" < "$work/nothing" > "$work/out" 2> "$work/err"
+    make -s -C "$1" SDK="$sdk" BOARD="$board" BUILD="$work/build" "${@:2}" < "$work/nothing" > "$work/out" \
+        2> "$work/err"
 }
 
 # says NAME STATUS PATTERN FOLDER ARGUMENT..: make's status, and a line of what it prints has the pattern.
@@ -74,8 +75,8 @@ sdk/new "$new" > "$work/nothing_said"
 adders=$work/adders
 cp -r tests/data/kit/adders "$adders"
 
-# A trace without names, by `board` itself, has the same lines: the names of tasks, other objects and lines, the lines of
-# calls and the width of a column are all that is added.
+# A trace without names, by `board` itself, has the same lines: the names of tasks, other objects and lines, the lines
+# of calls and the width of a column are all that is added.
 project "$new" all
 "$board" trace "$work/build/firmware.elf" "$work/build/firmware.cfg" "$new/firmware.journal" |
     sed 's/; [a-z]*\.[a-z]*:[0-9]*$//; s/  */ /g' > "$work/wanted"
@@ -92,7 +93,8 @@ has "names and lines in a trace" \
     "put_chr\\('H'\\) = E_OK; format\\.c:[0-9]+\$"
 says "a place that has a line keeps it" 0 '^ +2[0-9]+ 1   handler 3 \(BUTTON\) press .*; firmware\.c:7$' \
     "$new" trace TRACEFLAGS="--instructions --from 2000 --to 2020"
-says "names in a summary" 0 '^cpu 1 runs task 1 \(GREETER\), last step at event [0-9]+$' "$new" trace TRACEFLAGS=--summary
+says "names in a summary" 0 '^cpu 1 runs task 1 \(GREETER\), last step at event [0-9]+$' \
+    "$new" trace TRACEFLAGS=--summary
 says "names and lines of stacks" 0 \
     '^task 1 \(GREETER\): [0-9]+ of 1024 bytes, event [0-9]+ at [a-z_]+(\+0x[0-9a-f]+)? \([0-9a-f]{8}, [a-z]+\.c:[0-9]+\)$' \
     "$new" stacks
@@ -116,7 +118,8 @@ sed 's/^    ext_ker/    ((void (*)(void))(times - 3))();\n&/' sdk/project/firmwa
 line=$(grep -n 'times - 3' "$new/firmware.c" | cut -d: -f 1)
 says "the line of a call through a null pointer" 2 \
     "fetch outside RAM at 00000000, \\\$ra is greet\\+0x[0-9a-f]+ \\(firmware\\.c:$line\\)\$" "$new" test STRICT=1
-says "the same in a trace" 0 "\\\$ra is greet\\+0x[0-9a-f]+ \\(firmware\\.c:$line\\), task 1 \\(GREETER\\) dormant" "$new" trace
+says "the same in a trace" 0 "\\\$ra is greet\\+0x[0-9a-f]+ \\(firmware\\.c:$line\\), task 1 \\(GREETER\\) dormant" \
+    "$new" trace
 cp sdk/project/firmware.c "$new"
 
 # The switches of a schedule that fails.
@@ -191,7 +194,8 @@ has "how it was then" "^firmware\\.c:[0-9]+: this doesn't hold: pulses == 33 \\(
 # A configuration that the board doesn't take is refused by `make`, each time, and with its line.
 sed 's/CRE_SEM/CRE_CYC/' sdk/project/firmware.cfg > "$new/firmware.cfg"
 for time in first second; do
-    says "a statement that the kernel hasn't, the $time time" 2 "^firmware\\.cfg:5: this kernel hasn't CRE_CYC \\(" "$new" all
+    says "a statement that the kernel hasn't, the $time time" 2 "^firmware\\.cfg:5: this kernel hasn't CRE_CYC \\(" \
+        "$new" all
 done
 cp sdk/project/firmware.cfg "$new"
 says "the configuration mended" 0 '^ok: firmware.journal$' "$new" test

@@ -1,8 +1,8 @@
 #!/bin/bash
 # Standard streams and the files that are written: tests/programs/streams.sh PROGRAM. Streams that are closed when the
 # program starts: the system gives a file that is opened the number of a stream that is closed. It isn't taken for that
-# stream: a command that needs one ends with status 4, and no file gets what a stream should have. `-` for standard input,
-# which is read once. OUT, which is written whole or not at all, and is none of the inputs.
+# stream: a command that needs one ends with status 4, and no file gets what a stream should have. `-` for standard
+# input, which is read once. OUT, which is written whole or not at all, and is none of the inputs.
 . "$(dirname "$0")/check.sh"
 lay debug_five_words
 five=$laid/debug_five_words
@@ -188,7 +188,8 @@ parts() {
 # limited ARGUMENT..: runs the program where no file can grow. What it says goes through pipes.
 limited() {
     # shellcheck disable=SC2016
-    { bash -c 'trap "" XFSZ; ulimit -f 0; exec "$@"' limited "$board" "$@" 2>&1 > "$work/pipe.out" | cat > "$work/err"; } \
+    { bash -c 'trap "" XFSZ; ulimit -f 0; exec "$@"' limited "$board" "$@" 2>&1 > "$work/pipe.out" |
+        cat > "$work/err"; } \
         2> /dev/null
 }
 unwhole="board: can't write the output: $(LC_ALL=C bash -c 'trap "" XFSZ; ulimit -f 0; echo > "$0"' "$work/limit" 2>&1 |
@@ -224,7 +225,8 @@ whole "OUT of race" "$work/object" race "$work/image" "$work/config" "$work/noth
 # What it is stays: a link, its permissions, a pipe, a device.
 chmod 600 "$work/object"
 "$board" "${explore[@]}" --out "$work/linked.out" > "$work/out" 2> "$work/err"
-verdict "streams: OUT is a link" "$([ -L "$work/linked.out" ] || echo "it is none any more"; cmp "$work/object" "$work/found" 2>&1)"
+verdict "streams: OUT is a link" "$([ -L "$work/linked.out" ] ||
+    echo "it is none any more"; cmp "$work/object" "$work/found" 2>&1)"
 verdict "streams: the permissions of OUT" "$([ "$(stat -c %a "$work/object")" = 600 ] || stat -c %a "$work/object")"
 cat < "$work/pipe.out" > "$work/again" &
 "$board" "${explore[@]}" --out "$work/pipe.out" > "$work/out" 2> "$work/err"
@@ -239,7 +241,8 @@ verdict "streams: OUT has another name" "$(cmp "$work/object" "$work/found" 2>&1
 verdict "streams: OUT is standard output" "$(cat "$work/out" | grep -q '^fails after' || echo "it isn't told")"
 "$board" race "$work/image" "$work/config" "$work/nothing" 10 "$work/linked.out" > "$work/out" 2> "$work/err"
 check "streams: OUT of race is a link" 0 "$work/report" "" $?
-verdict "streams: a race into a link" "$([ -L "$work/linked.out" ] || echo "it is none any more"; cmp "$work/object" "$work/raced" 2>&1)"
+verdict "streams: a race into a link" "$([ -L "$work/linked.out" ] ||
+    echo "it is none any more"; cmp "$work/object" "$work/raced" 2>&1)"
 if [ "$(id -u)" != 0 ]; then
     mkdir "$work/shut"
     printf '%s' "$kept" > "$work/shut/object"

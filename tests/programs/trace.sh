@@ -301,9 +301,9 @@ echo '{"ph":"i","pid":3,"tid":1,"s":"t","ts":41,"cat":"tick","name":"tick 2"}' >
 entries --from 41 "${files[@]}"
 has "the number of a tick as json" "$work/lines" '"cat":"tick"'
 
-# Processor 1 takes the lock of the greatest number, and the task of processor 2 asks for it. Processor 3 starts a task of
-# higher priority on processor 2, which runs from then on: so the other one spins no more, though its processor has made
-# no further step. That event concerns processor 2 and no other.
+# Processor 1 takes the lock of the greatest number, and the task of processor 2 asks for it. Processor 3 starts a task
+# of higher priority on processor 2, which runs from then on: so the other one spins no more, though its processor has
+# made no further step. That event concerns processor 2 and no other.
 cat > "$work/locks.s" << 'END'
 one:    addiu   $a0, $zero, 255
         addiu   $v0, $zero, 60

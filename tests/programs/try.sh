@@ -85,7 +85,8 @@ tells "ticks are among the events" "stopped: no end after 2 steps" --steps 4 --t
 printf 'main: b main\n nop\n' > "$work/spin.s"
 tells "a task that spins" "stopped: no end after 10000 steps" "$work/spin.s"
 tells "where it spins" "task 1 ready since the start, at main(\+0x4)? \(8000000[04]\)" "$work/spin.s"
-tells "that it spins" "cpu 1 spins since the start at main \(80000000\): 2 instructions that change nothing" "$work/spin.s"
+tells "that it spins" "cpu 1 spins since the start at main \(80000000\): 2 instructions that change nothing" \
+    "$work/spin.s"
 # shellcheck disable=SC2016
 printf 'main: lw $t0, 0($0)\n' > "$work/fault.s"
 tells "an exception" \
@@ -178,7 +179,8 @@ tells "past all that is loaded" "$past task 1 at main\+0xc .*, event 6: lb .* at
 nothing of the program lies there, and 1 time after it" --strict --cpus 2 "$work/edge.s"
 "$board" asm "$work/edge.s" "$work/edge.elf"
 printf '\0' >> "$work/edge.elf"
-tells "what asm didn't write" "$past not looked for, as board asm didn't write this object file" --strict "$work/edge.elf"
+tells "what asm didn't write" "$past not looked for, as board asm didn't write this object file" \
+    --strict "$work/edge.elf"
 
 # Mistakes: the first is told as `asm` tells it, and then those behind it, each once, 20 at most.
 cat > "$work/mistakes.s" << 'END'

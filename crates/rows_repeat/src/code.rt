@@ -1,7 +1,7 @@
 //! Code at random: what a processor does first, and then instructions that lie in any order. Most of it goes on for
 //! ever, since branches lead to any place of it. Some of it changes itself.
 
-ghost use Rattle.std.specs.Prelude.{◌≡◌, ◌<◌, ◌≤◌, length};
+ghost use Rattle.std.specs.Prelude.{◌<◌};
 
 use crate::random::Random;
 use crate::table::{COUNT, Form, ROWS, Row};

@@ -246,8 +246,8 @@ class Texts:
     def arguments(self):
         """A command line, mostly a wrong one. No name has a slash in it, so that files are made in one folder alone."""
         words = ("words", "asm", "run", "debug", "gdb", "race", "trace", "journal", "explore", "shrink", "help", "-h",
-                 "--help", "--version", "-V", "--", "-", "", "x", "1", "-1", "1000001", "18446744073709551616", "--STEPS", "--steps=1", "\x1b[31m",
-                 "a\nb", "a\tb",
+                 "--help", "--version", "-V", "--", "-", "", "x", "1", "-1", "1000001", "18446744073709551616",
+                 "--STEPS", "--steps=1", "\x1b[31m", "a\nb", "a\tb",
                  "--from", "--format", "--random", "--raise", "--summary", "--instructions", "--cpu=1",
                  "\u00e9\u202e", "x" * 4000, "image.elf", "board.cfg", "board.journal", "source.s", "%s%n", "{}", "'")
         made = [self.random.choice(words).encode() for _ in range(self.random.choice((0, 1, 1, 2, 2, 3, 4, 5, 9)))]

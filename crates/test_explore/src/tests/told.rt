@@ -4,7 +4,7 @@ use super::sources::{APART, DEADLOCK, LOST_UPDATE, REPAIRED, TWO};
 use brd_base::NoMemory;
 use brd_board::Board;
 use brd_explore::Nobody;
-use brd_image::{Loaded, build};
+use brd_image::build;
 use brd_search::{
     Looks, Plan, SearchOptions, Searched, Sizes, plan_of, put_found, put_none, search,
 };
