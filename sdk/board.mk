@@ -28,8 +28,9 @@
 #   make hunt           does the events of JOURNAL in TRIES other orders, and keeps the first that fails; TIME=60: in as
 #                       many as there are seconds for
 #   make explore        searches all schedules within bounds for one under which the test of JOURNAL fails; TIME=60:
-#                       with more and more preemptions, and says after so many seconds what is known; PLACES=1000000:
-#                       all schedules, however many events and preemptions they have, and none from which none ends
+#                       with more and more preemptions, and says after so many seconds what is known; THREADS=4: by 4
+#                       threads; PLACES=1000000: all schedules, however many events and preemptions they have, and none
+#                       from which none ends
 #   make shrink         leaves events out of the schedule that was found, as long as it fails
 #   make clean
 #
@@ -43,7 +44,7 @@
 # debugged or hunted.
 
 # What others call so in the environment, as GNU time its format, isn't meant for this.
-$(foreach it,TIME DATA COVERAGE REPORTS PORT,$(if $(filter environment,$(origin $(it))),$(eval override undefine $(it))))
+$(foreach it,TIME DATA COVERAGE REPORTS PORT THREADS,$(if $(filter environment,$(origin $(it))),$(eval override undefine $(it))))
 
 PROGRAMS ?= firmware
 PROGRAM ?= $(firstword $(PROGRAMS))
@@ -71,6 +72,7 @@ TICKS ?=
 RAISES ?=
 RAISED ?=
 PLACES ?=
+THREADS ?=
 FAIR ?= 0
 LOOK ?=
 GDB ?= gdb-multiarch
@@ -281,7 +283,7 @@ hunt: all
 explore: all
 	@$(SDK)/explore $(BOARD) $(IMAGE) $(CONFIGURATION) $(JOURNAL) $(BUILD)/explore.journal --events '$(EVENTS)' \
 	    --preemptions '$(PREEMPTIONS)' --ticks '$(TICKS)' --raises '$(RAISES)' --lines '$(RAISED)' \
-	    --places '$(PLACES)' --fair '$(FAIR)' --look '$(LOOK)' --time '$(TIME)'
+	    --places '$(PLACES)' --threads '$(THREADS)' --fair '$(FAIR)' --look '$(LOOK)' --time '$(TIME)'
 
 shrink: all
 	@$(SDK)/explore --shrink $(BOARD) $(IMAGE) $(CONFIGURATION) $(JOURNAL) $(BUILD)/explore.journal \
