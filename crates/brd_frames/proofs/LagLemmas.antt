@@ -328,23 +328,30 @@ pub record Pulled (by : Sharing) (b : BoardState) (y : Agent) (steps : List Agen
   pub middle : BoardState
   pub path : Path by b y count middle
   pub lags : Lags by middle (without y steps) new
+  pub few : count + length (without y steps) ≡ length steps
 
 pull-if : (by : Sharing) (b next new : BoardState) (who y : Agent) (more : List Agent) (same : Bool) → is_same_agent who y ≡ same →
     IsInvisible by b who next → is_steady b.kernel who ≡ true → Pulled by next y more new →
     (count : ℕ) × (middle : BoardState) × Path by b y count middle
     × Lags by middle (if same then without y more else who ∷ without y more) new
-pull-if by b next new who y more true is one steady rest =
-    (suc rest.count, rest.middle, (next, subst (λ x. IsInvisible by b x next) (same-so who y is) one, rest.path), rest.lags)
+    × (count + length (if same then without y more else who ∷ without y more) ≡ suc (length more))
+pull-if by b next new who y more true is one steady rest = (
+  suc rest.count,
+  rest.middle,
+  (next, subst (λ x. IsInvisible by b x next) (same-so who y is) one, rest.path),
+  rest.lags,
+  omega (arith, rest.few),
+)
 pull-if by b next new who y more false is one steady rest =
     let pushed = push by b next rest.middle who y rest.count one rest.path
     (λ same. true≢false (sym (ap (is_same_agent who) same ∙ same-own who) ∙ is)) in
-    (rest.count, pushed.middle, pushed.path, (rest.middle, pushed.last, pushed.steady ∙ steady, rest.lags))
+    (rest.count, pushed.middle, pushed.path, (rest.middle, pushed.last, pushed.steady ∙ steady, rest.lags), omega (arith, rest.few))
 
 pub pull : (by : Sharing) (b new : BoardState) (y : Agent) (steps : List Agent) → Lags by b steps new → Pulled by b y steps new
-pull by b new y [] lags = record { count = 0; middle = b; path = refl; lags = lags }
+pull by b new y [] lags = record { count = 0; middle = b; path = refl; lags = lags; few = refl }
 pull by b new y (who ∷ more) lags =
     let it = pull-if by b lags.0 new who y more (is_same_agent who y) refl lags.1 lags.2 (pull by lags.0 new y more lags.3) in
-    record { count = it.0; middle = it.1; path = it.2; lags = it.3 }
+    record { count = it.0; middle = it.1; path = it.2; lags = it.3; few = it.4 }
 
 -- Events.
 

@@ -96,7 +96,7 @@ like-invisible by b who new it =
       links = ap (λ (x : BoardState). x.links) led.is;
     }
 
-like-lags : (by : Sharing) (b new : BoardState) (steps : List Agent) → Lags by b steps new → Like b new
+pub like-lags : (by : Sharing) (b new : BoardState) (steps : List Agent) → Lags by b steps new → Like b new
 like-lags by b new [] lags = subst (λ x. Like b x) (sym lags) (like-same b)
 like-lags by b new (who ∷ more) lags =
     like-then b lags.0 new (like-invisible by b who lags.0 lags.1) (like-lags by lags.0 new more lags.3)
@@ -129,7 +129,7 @@ like-executes one two event who like it = record {
 -- Others.
 
 -- none of these agents is this one
-abbrev Others : Agent → List Agent → Type 0
+abbrev pub Others : Agent → List Agent → Type 0
 Others who [] = Unit {0}
 Others who (other ∷ others) = (who ≡ other → ⊥) × Others who others
 
@@ -139,7 +139,7 @@ others-if who other others true is rest = rest
 others-if who other others false is rest =
     ((λ same. true≢false (sym (ap (is_same_agent other) same ∙ same-own other) ∙ is)), rest)
 
-without-others : (who : Agent) (steps : List Agent) → Others who (without who steps)
+pub without-others : (who : Agent) (steps : List Agent) → Others who (without who steps)
 without-others who [] = tt
 without-others who (other ∷ more) = others-if who other (without who more) (is_same_agent other who) refl (without-others who more)
 
@@ -176,7 +176,7 @@ lags-more by b middle new who (x ∷ more) lags it steady =
 
 -- Who acts.
 
-one-agent : (b : BoardState) (event : Event) (x y : Agent) → Executes b event x → Executes b event y → x ≡ y
+pub one-agent : (b : BoardState) (event : Event) (x y : Agent) → Executes b event x → Executes b event y → x ≡ y
 one-agent b event x y one two =
     let steps : Step one.cpu ≡ Step two.cpu = sym one.steps ∙ two.steps in
     let cpu : one.cpu ≡ two.cpu = cc in
@@ -195,14 +195,14 @@ interrupted : (b : BoardState) (cpu line : ℕ) (who : Agent) → deliverable b.
 interrupted b cpu line who is acts =
     false≢true (ap is_some (sym acts.uninterrupted ∙ ap (deliverable b.kernel) (sym (step-cpu cpu acts.cpu acts.steps)) ∙ is))
 
-acts-by : (b : BoardState) (cpu : ℕ) (by : Option Executor) (line : Option ℕ) → executor_on b.kernel cpu ≡ by → deliverable b.kernel cpu ≡ line →
+pub acts-by : (b : BoardState) (cpu : ℕ) (by : Option Executor) (line : Option ℕ) → executor_on b.kernel cpu ≡ by → deliverable b.kernel cpu ≡ line →
     ((who : Executor) × (executor_on b.kernel cpu ≡ Some who) × (deliverable b.kernel cpu ≡ None)) ⊎ IsQuiet b (Step cpu)
 acts-by b cpu None line on is = inr (λ who acts. nobody b cpu who on acts)
 acts-by b cpu (Some who) None on is = inl (who, on, is)
 acts-by b cpu (Some who) (Some line) on is = inr (λ other acts. interrupted b cpu line other is acts)
 
 -- a call of ter_tsk is somebody's instruction
-quiet-ends : (b : BoardState) (event : Event) (id : ℕ) → IsQuiet b event → Terminates b event id → ⊥
+pub quiet-ends : (b : BoardState) (event : Event) (id : ℕ) → IsQuiet b event → Terminates b event id → ⊥
 quiet-ends b event id quiet it =
     let so = calls-so b it.cpu it.calls.address it.calls.steps in
     quiet (agent_by it.cpu so.who) (record {
@@ -214,11 +214,11 @@ quiet-ends b event id quiet it =
 
 -- Who is live: nobody starts a task that isn't dormant, but by terminating it.
 
-abbrev Lives : BoardState → Agent → Type 0
+abbrev pub Lives : BoardState → Agent → Type 0
 Lives b (agents.Task id) = is_live_at b id ≡ true
 Lives b (agents.Handler cpu) = Unit {0}
 
-abbrev AllLive : BoardState → List Agent → Type 0
+abbrev pub AllLive : BoardState → List Agent → Type 0
 AllLive b [] = Unit {0}
 AllLive b (who ∷ more) = Lives b who × AllLive b more
 
@@ -240,7 +240,7 @@ lives-like : (one two : BoardState) (who : Agent) → Like one two → Lives one
 lives-like one two (agents.Task id) like live = ap is_live (like.tasks id) ∙ live
 lives-like one two (agents.Handler cpu) like live = tt
 
-all-like : (one two : BoardState) (steps : List Agent) → Like one two → AllLive one steps → AllLive two steps
+pub all-like : (one two : BoardState) (steps : List Agent) → Like one two → AllLive one steps → AllLive two steps
 all-like one two [] like live = tt
 all-like one two (who ∷ more) like live = (lives-like one two who like live.0, all-like one two more like live.1)
 
@@ -249,7 +249,7 @@ live-if : (b : BoardState) (who : Agent) (others : List Agent) (same : Bool) →
 live-if b who others true live rest = rest
 live-if b who others false live rest = (live, rest)
 
-live-without : (b : BoardState) (who : Agent) (steps : List Agent) → AllLive b steps → AllLive b (without who steps)
+pub live-without : (b : BoardState) (who : Agent) (steps : List Agent) → AllLive b steps → AllLive b (without who steps)
 live-without b who [] live = tt
 live-without b who (other ∷ more) live =
     live-if b other (without who more) (is_same_agent other who) live.0 (live-without b who more live.1)
@@ -330,20 +330,32 @@ record Behind (by : Sharing) (In : BoardState → Type 0) (b : BoardState) : Typ
   lags : Lags by place lagging b
   live : AllLive place lagging
 
--- by an event in which none of those executes that lag
+-- What an event leaves of agents that lag: one board lags behind the other by the same instructions still.
+pub record Over (by : Sharing) (middle b : BoardState) (event : Event) (others : List Agent) : Type 0 where
+  pub lags : Lags by (happens middle event).board others (happens b event).board
+  pub live : AllLive (happens middle event).board others
+  pub report : (happens b event).report ≡ (happens middle event).report
+
+-- That is so of an event in which none of those executes that lag.
+pub over-others : (by : Sharing) (b middle : BoardState) (event : Event) (others : List Agent) →
+    Lags by middle others b → AllLive middle others → ((x : Agent) → Executes middle event x → Others x others × Keeps by middle x) →
+    EndsMortals by middle event → Over by middle b event others
+over-others by b middle event others lags live acts mortals =
+    let over = lags-over by middle b event others lags (λ x it. (acts x it).1)
+    (all-apart by middle b middle event others lags (like-same middle) (λ x it. (acts x it).0) mortals live) in
+    record {
+      lags = over.0;
+      live = all-over by middle event others (λ x it. (acts x it).0) mortals (lags-last by middle b others lags) live;
+      report = over.1;
+    }
+
+-- by such an event
 by-others : (by : Sharing) (In : BoardState → Type 0) (b middle : BoardState) (event : Event) (others : List Agent) →
     Lags by middle others b → AllLive middle others → ((x : Agent) → Executes middle event x → Others x others × Keeps by middle x) →
     EndsMortals by middle event → In (happens middle event).board → Behind by In (happens b event).board
 by-others by In b middle event others lags live acts mortals there =
-    let over = lags-over by middle b event others lags (λ x it. (acts x it).1)
-    (all-apart by middle b middle event others lags (like-same middle) (λ x it. (acts x it).0) mortals live) in
-    record {
-      place = (happens middle event).board;
-      lagging = others;
-      there = there;
-      lags = over.0;
-      live = all-over by middle event others (λ x it. (acts x it).0) mortals (lags-last by middle b others lags) live;
-    }
+    let over = over-others by b middle event others lags live acts mortals in
+    record { place = (happens middle event).board; lagging = others; there = there; lags = over.lags; live = over.live }
 
 by-quiet : (by : Sharing) (Left : Type 0) (pays : Left → Event → Left → Type 0) (In : Left → BoardState → Type 0) (left rest : Left)
     (b : BoardState) (event : Event) (it : Behind by (In left) b) → IsTree by Left pays In → pays left event rest →
@@ -396,7 +408,7 @@ by-visible by In b middle cpu y others acts lags live apart keeps mortals there 
     by-others by In b middle (Step cpu) others lags live
     (λ z other. subst (λ w. Others w others × Keeps by middle w) (one-agent middle (Step cpu) y z acts other) (apart, keeps)) mortals there
 
-executor-lives : (b : BoardState) (cpu : ℕ) (x : Executor) → ((id : ℕ) → x ≡ executor.Task id → is_live_at b id ≡ true) → Lives b (agent_by cpu x)
+pub executor-lives : (b : BoardState) (cpu : ℕ) (x : Executor) → ((id : ℕ) → x ≡ executor.Task id → is_live_at b id ≡ true) → Lives b (agent_by cpu x)
 executor-lives b cpu executor.Handler live = tt
 executor-lives b cpu (executor.Task id) live = live id refl
 
@@ -449,10 +461,10 @@ by-step by Left pays In left b cpu it tree paid false is =
       | inr quiet ↦ by-quiet by Left pays In left left b (Step cpu) it tree paid quiet
     ]
 
-tick-step : (cpu : ℕ) → Tick ≡ Step cpu → ⊥
+pub tick-step : (cpu : ℕ) → Tick ≡ Step cpu → ⊥
 tick-step cpu is = let wrong : ⊥ = cc in wrong
 
-raise-step : (line cpu : ℕ) → Raise line ≡ Step cpu → ⊥
+pub raise-step : (line cpu : ℕ) → Raise line ≡ Step cpu → ⊥
 raise-step line cpu is = let wrong : ⊥ = cc in wrong
 
 by-event : (by : Sharing) (Left : Type 0) (pays : Left → Event → Left → Type 0) (In : Left → BoardState → Type 0) (left rest : Left)

@@ -96,7 +96,7 @@ same-cpu : (one two : ℕ) → Step one ≡ Step two → one ≡ two
 same-cpu one two is = cc
 
 -- an invisible instruction terminates nobody
-hidden-lasts : (by : Sharing) (b : BoardState) (cpu : ℕ) → IsHidden by b cpu → (id : ℕ) → Terminates b (Step cpu) id → ⊥
+pub hidden-lasts : (by : Sharing) (b : BoardState) (cpu : ℕ) → IsHidden by b cpu → (id : ℕ) → Terminates b (Step cpu) id → ⊥
 hidden-lasts by b cpu it id ends =
     ran-called (context_in b.kernel it.who).pc ends.calls.address
     (sym (ap (λ (done : Happened). done.report) (agent-steps b (happens b (Step cpu)).board cpu it.who it.next it.invisible.goes it.apart))

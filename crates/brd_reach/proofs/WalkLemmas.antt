@@ -16,7 +16,7 @@ use Rattle.brd_reach.specs.Rounds.{LeadsTo, HasWalked}
 
 -- Who is next.
 
-next-one : (b : BoardState) (cpu : ℕ) (x y : Agent) → IsNext b cpu x → IsNext b cpu y → x ≡ y
+pub next-one : (b : BoardState) (cpu : ℕ) (x y : Agent) → IsNext b cpu x → IsNext b cpu y → x ≡ y
 next-one b cpu x y one two =
     let both : Some one.executor ≡ Some two.executor = sym one.goes_on.executes ∙ two.goes_on.executes in
     let same : one.executor ≡ two.executor = cc in
@@ -66,7 +66,7 @@ path-on by who (suc n) more b x y one two =
 
 -- so many steps, and one more
 
-after-more : (cpu n : ℕ) (b : BoardState) →
+pub after-more : (cpu n : ℕ) (b : BoardState) →
     (happens (after b (replicate n (Step cpu))) (Step cpu)).board ≡ after b (replicate (suc n) (Step cpu))
 after-more cpu zero b = refl
 after-more cpu (suc n) b = after-more cpu n (happens b (Step cpu)).board
@@ -82,7 +82,7 @@ walk-none by b cpu set = record {
   set = set;
 }
 
-less-or-same : (n m : ℕ) → n < suc m → (n < m) ⊎ (n ≡ m)
+pub less-or-same : (n m : ℕ) → n < suc m → (n < m) ⊎ (n ≡ m)
 less-or-same n m less = grind arith
 
 -- an invisible instruction more

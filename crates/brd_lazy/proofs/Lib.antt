@@ -1,0 +1,5 @@
+pub mod StepLemmas
+pub mod RoomLemmas
+pub mod FollowLemmas
+pub mod ChargeLemmas
+pub mod ScheduleLemmas

@@ -1,0 +1,4 @@
+pub mod Blocks
+pub mod Charges
+pub mod Trees
+pub mod Lazy

@@ -1,0 +1,8 @@
+//! Lazy schedules within bounds: if one fails, a lazy one does, on which agents do what nobody else can see only when
+//! they go on to what others may see.
+//!
+//! `specs/Blocks.antt` says what blocks are, `specs/Lazy.antt` which schedules are lazy, `specs/Trees.antt` through
+//! which places a search has to go, and which it may leave out.
+#![tactic(auto)]
+
+pub mod laws;
