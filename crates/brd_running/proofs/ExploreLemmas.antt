@@ -1,5 +1,5 @@
 -- A search of what was read.
-use Rattle.std.proofs.Common.{◌≡◌, ℕ, ◌<◌, ◌≤◌, true, false, List, refl, sym, inl, inr, subst, arith}
+use Rattle.std.proofs.Common.{◌≡◌, ℕ, ◌<◌, ◌≤◌, true, false, List, sym, inl, inr, subst, arith}
 use Rattle.std.specs.Prelude.{◌==◌, not, Option, Some, None, IfSome, Result, Ok, Err, MatchResult, option_map}
 use Rattle.brd_board.specs.declared.event.Event.{Event}
 use Rattle.brd_explore.specs.declared.bounds.Bounds.{Bounds}

@@ -13,7 +13,7 @@ use Rattle.brd_board.specs.Board.{BoardState}
 use Rattle.brd_board.specs.Boot.{boot}
 use Rattle.brd_board.specs.declared.boot.BootFault.{BootFault}
 use Rattle.brd_board.proofs.EventLemmas.{boot-begins}
-use Rattle.brd_image.specs.Building.{booted, loaded, step}
+use Rattle.brd_image.specs.Building.{booted, step}
 use Rattle.brd_image.specs.declared.building.Loaded.{Loaded}
 use Rattle.brd_image.specs.declared.fault.BuildFault.{BuildFault}
 use Rattle.brd_image.specs.declared.fault.BuildFault.TheVariants.{Elf, Config, Boot}
