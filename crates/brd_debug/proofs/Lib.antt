@@ -1,7 +1,7 @@
 mod MarkLemmas
 mod StopLemmas
 mod TouchingLemmas
-mod SearchLemmas
+pub mod SearchLemmas
 mod StillLemmas
 mod PlayingLemmas
 mod NotedLemmas

@@ -3,7 +3,7 @@
 ghost use Rattle.std.specs.Prelude.{◌≡◌, ◌+◌, ◌<◌, ◌≤◌, ◌^◌, length, take, slice_get, Decides, is_some, OnOk, OnErr};
 ghost use Rattle.std.specs.Prelude.{Some, IfOk, IfSome};
 ghost use Rattle.brd_board.specs.Board.{after};
-ghost use Rattle.brd_debug.specs.Debugger.{shown, Goes, went, SeesAhead};
+ghost use Rattle.brd_debug.specs.Debugger.{shown, Goes, went, sought, SeesAhead};
 ghost use Rattle.brd_journal.specs.Playing.{IsPlayed};
 ghost use Rattle.brd_debug.specs.Kept.{AreKept};
 ghost use Rattle.brd_debug.specs.Marks.{most_addresses, is_marked, marked, marked_within};
@@ -12,7 +12,7 @@ ghost use Rattle.brd_debug.specs.Stops.{no_stops, IsStop, IsLeast, IsGreatest};
 use crate::fault::DebugFault;
 use crate::look::Look;
 use crate::marks::{MOST_ADDRESSES, MOST_MARKS};
-use crate::search::{go_back, next_stop, play_near, played_to, stop_before};
+use crate::search::{go_back, next_stop, play_near, played_to, stop_before, stop_from};
 use crate::snapshots::Snapshots;
 use crate::stops::{Only, Stepper, Stops};
 use brd_base::NoMemory;
@@ -348,10 +348,63 @@ impl Debugger {
             &self.stops,
             &self.snapshots,
             &self.shown,
+            0,
             progress,
         )?;
         if let Some(position) = found {
             self.show_at(position, progress)?;
+        }
+        Ok(found)
+    }
+
+    /// Goes to the first stop from its position on, before another position, and answers that; where there is none, it
+    /// goes to this other one. An `Err` leaves it where it is.
+    pub fn seek(&mut self, end: u64) -> Result<Option<u64>, NoMemory>
+        requires on { self.old.position ≤ end }
+        requires within { end ≤ length self.old.events }
+        ensures least { IfOk result
+            (IsLeast (IsStop self.old.stops self.old.boot self.old.events) self.old.position end) }
+        ensures moved { IfOk result (λ found. self.new ≡ sought self.old end found) }
+        ensures err { OnErr result (self.new ≡ self.old) }
+    {
+        let mut playback = self.shown.try_copy()?;
+        let found = stop_from(
+            &self.boot,
+            &self.journal,
+            &self.stops,
+            &mut self.snapshots,
+            &mut playback,
+            end,
+            &mut Quiet,
+        )?;
+        match found {
+            Some(position) => self.show_at(position, &mut Quiet)?,
+            None => self.shown = playback,
+        }
+        Ok(found)
+    }
+
+    /// Goes back to the last stop before its position, from another position on, and answers that; where there is none,
+    /// it goes to this other one. An `Err` leaves it where it is.
+    pub fn seek_back(&mut self, begin: u64) -> Result<Option<u64>, NoMemory>
+        requires back { begin ≤ self.old.position }
+        ensures greatest { IfOk result
+            (IsGreatest (IsStop self.old.stops self.old.boot self.old.events) begin self.old.position) }
+        ensures moved { IfOk result (λ found. self.new ≡ sought self.old begin found) }
+        ensures err { OnErr result (self.new ≡ self.old) }
+    {
+        let found = stop_before(
+            &self.boot,
+            &self.journal,
+            &self.stops,
+            &self.snapshots,
+            &self.shown,
+            begin,
+            &mut Quiet,
+        )?;
+        match found {
+            Some(position) => self.show_at(position, &mut Quiet)?,
+            None => self.show_at(begin, &mut Quiet)?,
         }
         Ok(found)
     }

@@ -1,9 +1,7 @@
 //! Moves: on to the next stop, and back to the last one.
 
-ghost use Rattle.std.specs.Prelude.{◌≡◌, ◌≤◌, length, Some, OnOk, IfOk, IfSome, IfNone};
-ghost use Rattle.brd_stub.specs.declared.halt.Reason.TheVariants as reason;
+ghost use Rattle.std.specs.Prelude.{◌≡◌, Some, OnOk, IfOk, IfSome, IfNone};
 ghost use Rattle.brd_stub.specs.Moving.{
-  moved_to,
   after_next,
   step_done,
   stands_there,
@@ -29,6 +27,7 @@ use crate::halt::{
     told_ahead, watched,
 };
 use crate::points::Point;
+use crate::seeking::{Search, search_back, search_on, show_at};
 use crate::threads::{Whose, standing_thread, stepped_thread};
 use brd_base::NoMemory;
 use brd_debug::{Debugger, Look};
@@ -45,7 +44,8 @@ pub struct Origin<'a> {
     pub told: Told,
 }
 
-/// Goes on to the first stop: at its position, of what wasn't told yet; else after it; else to the end.
+/// Goes on to the first stop: at its position, of what wasn't told yet; else after it; else to the end. Where it is asked
+/// to end, it stops before.
 pub fn forward<P: Progress>(
     debugger: &mut Debugger,
     origin: Origin<'_>,
@@ -79,7 +79,7 @@ fn stop_here(debugger: &mut Debugger, origin: Origin<'_>) -> Result<Option<Stop>
     Ok(Some(stop))
 }
 
-/// Goes on to the first stop after its position, else to the end.
+/// Goes on to the first stop after its position, else to the end; or as far as it is when it is asked to end.
 fn search_ahead<P: Progress>(
     debugger: &mut Debugger,
     origin: Origin<'_>,
@@ -89,25 +89,11 @@ fn search_ahead<P: Progress>(
         GoesOn origin.entry.points.now origin.entry.last debugger.old
         (record { debugger = debugger.new; stop = stop })) }
 {
-    match debugger.next_stop_telling(progress)? {
-        None => end(debugger, origin, progress),
-        Some(_) => stop_ahead(debugger, origin),
+    match search_on(debugger, progress)? {
+        Search::Stop(_) => stop_ahead(debugger, origin),
+        Search::Nothing => Ok(stop_there(debugger, origin, Reason::End)),
+        Search::Early => Ok(stop_there(debugger, origin, Reason::Interrupt)),
     }
-}
-
-/// Goes to the end.
-fn end<P: Progress>(
-    debugger: &mut Debugger,
-    origin: Origin<'_>,
-    progress: &mut P,
-) -> Result<Stop, NoMemory>
-    ensures { IfOk result (λ stop.
-        record { debugger = debugger.new; stop = stop }
-        ≡ stands_there origin.entry.last reason.End (moved_to debugger.old (length debugger.old.events))) }
-{
-    let len = debugger.len();
-    show_at(debugger, len, progress)?;
-    Ok(stop_there(debugger, origin, Reason::End))
 }
 
 /// Stops at its position, to which it has come, so that nothing was told of it.
@@ -203,7 +189,8 @@ fn stop_there(debugger: &Debugger, origin: Origin<'_>, reason: Reason) -> Stop
     }
 }
 
-/// Goes back to the last stop, but for what was told of the last event, else to the beginning.
+/// Goes back to the last stop, but for what was told of the last event, else to the beginning. Where it is asked to end,
+/// it stops before.
 pub fn backward<P: Progress>(
     debugger: &mut Debugger,
     origin: Origin<'_>,
@@ -214,12 +201,13 @@ pub fn backward<P: Progress>(
         (record { debugger = debugger.new; stop = stop })) }
 {
     let from = debugger.position();
-    match debugger.last_stop_telling(progress)? {
-        None => begin(debugger, origin, progress),
-        Some(found) => {
+    match search_back(debugger, progress)? {
+        Search::Stop(found) => {
             let is_told = is_told_behind(origin.told, from - found);
             stop_or_back(debugger, origin, is_told, progress)
         }
+        Search::Nothing => Ok(stop_there(debugger, origin, Reason::Begin)),
+        Search::Early => Ok(stop_there(debugger, origin, Reason::Interrupt)),
     }
 }
 
@@ -246,7 +234,8 @@ fn stop_or_back<P: Progress>(
     }
 }
 
-/// Goes back to the last stop, of which nothing was told, else to the beginning.
+/// Goes back to the last stop, of which nothing was told, else to the beginning; or as far as it is when it is asked to
+/// end.
 fn search_behind<P: Progress>(
     debugger: &mut Debugger,
     origin: Origin<'_>,
@@ -256,9 +245,10 @@ fn search_behind<P: Progress>(
         EndsBehind origin.entry.points.now origin.entry.last debugger.old
         (record { debugger = debugger.new; stop = stop })) }
 {
-    match debugger.last_stop_telling(progress)? {
-        None => begin(debugger, origin, progress),
-        Some(_) => stop_behind(debugger, origin),
+    match search_back(debugger, progress)? {
+        Search::Stop(_) => stop_behind(debugger, origin),
+        Search::Nothing => Ok(stop_there(debugger, origin, Reason::Begin)),
+        Search::Early => Ok(stop_there(debugger, origin, Reason::Interrupt)),
     }
 }
 
@@ -272,20 +262,6 @@ fn stop_behind(debugger: &mut Debugger, origin: Origin<'_>) -> Result<Stop, NoMe
         None => Ok(stop_there(debugger, origin, Reason::Done)),
         Some(look) => stand_behind(debugger, origin, false, &look),
     }
-}
-
-/// Goes to the beginning.
-fn begin<P: Progress>(
-    debugger: &mut Debugger,
-    origin: Origin<'_>,
-    progress: &mut P,
-) -> Result<Stop, NoMemory>
-    ensures { IfOk result (λ stop.
-        record { debugger = debugger.new; stop = stop }
-        ≡ stands_there origin.entry.last reason.Begin (moved_to debugger.old 0)) }
-{
-    show_at(debugger, 0, progress)?;
-    Ok(stop_there(debugger, origin, Reason::Begin))
 }
 
 /// Stops before the event of its position, or after it where a watch is told.
@@ -335,23 +311,5 @@ fn show_next(debugger: &mut Debugger) -> Result<(), NoMemory>
 {
     let position = debugger.position();
     let len = debugger.len();
-    match debugger.goto((position + 1).min(len)) {
-        Ok(()) => Ok(()),
-        Err(_) => Err(NoMemory),
-    }
-}
-
-/// Goes to a position.
-fn show_at<P: Progress>(
-    debugger: &mut Debugger,
-    position: u64,
-    progress: &mut P,
-) -> Result<(), NoMemory>
-    requires { position ≤ length debugger.old.events }
-    ensures { OnOk result (debugger.new ≡ moved_to debugger.old position) }
-{
-    match debugger.goto_telling(position, progress) {
-        Ok(()) => Ok(()),
-        Err(_) => Err(NoMemory),
-    }
+    show_at(debugger, (position + 1).min(len))
 }
