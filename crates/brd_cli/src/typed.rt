@@ -36,11 +36,9 @@ impl Ahead {
     fn take(&mut self, buf: &mut [u8]) -> usize
         ensures { result ≤ length buf.new }
     {
-        let mut count = 0;
-        for (place, byte) in buf.iter_mut().zip(self.rest()) {
-            *place = *byte;
-            count += 1;
-        }
+        let rest = self.rest();
+        let count = rest.len().min(buf.len());
+        buf[..count].copy_from_slice(&rest[..count]);
         self.taken = self.taken.saturating_add(count);
         count
     }
@@ -164,12 +162,12 @@ impl<'a, T: Wait, R: Read + Drop> Typed<'a, T, R> {
 }
 
 /// A reader that a command reads alone.
-pub fn alone<'a, T: Wait, R: Read + Drop>(alloc: Global, reader: R) -> io::Result<Typed<'a, T, R>> {
+pub fn read_alone<'a, T: Wait, R: Read + Drop>(alloc: Global, reader: R) -> io::Result<Typed<'a, T, R>> {
     Ok(Typed::Alone(BufReader::new(alloc, reader)?))
 }
 
 /// A reader that a thread reads ahead, which begins here.
-pub fn ahead<'a, T, R>(
+pub fn read_ahead<'a, T, R>(
     rt: &'a T,
     alloc: Global,
     mut reader: R,
