@@ -117,8 +117,11 @@ impl Inbox {
             return Err(error);
         }
         let count = ahead.take(buf);
+        let is_empty = ahead.rest().is_empty();
         drop(ahead);
-        self.changes.notify_all();
+        if is_empty {
+            self.changes.notify_all();
+        }
         Ok(count)
     }
 
@@ -162,7 +165,10 @@ impl<'a, T: Wait, R: Read + Drop> Typed<'a, T, R> {
 }
 
 /// A reader that a command reads alone.
-pub fn read_alone<'a, T: Wait, R: Read + Drop>(alloc: Global, reader: R) -> io::Result<Typed<'a, T, R>> {
+pub fn read_alone<'a, T: Wait, R: Read + Drop>(
+    alloc: Global,
+    reader: R,
+) -> io::Result<Typed<'a, T, R>> {
     Ok(Typed::Alone(BufReader::new(alloc, reader)?))
 }
 

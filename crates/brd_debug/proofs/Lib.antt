@@ -4,5 +4,6 @@ mod TouchingLemmas
 pub mod SearchLemmas
 mod StillLemmas
 mod PlayingLemmas
+mod SpareLemmas
 mod NotedLemmas
 mod KeptLemmas

@@ -123,44 +123,30 @@ pub(crate) fn go_back(
     Ok(())
 }
 
-/// The first stop after the position of the board that is shown. It takes snapshots on its way, and tells how far it
-/// is.
+/// The first stop after the position of a board, which it lets play on, to wherever the search ends. It takes snapshots on
+/// its way, and tells how far it is.
 pub(crate) fn next_stop<P: Progress>(
     boot: &Board,
     journal: &Journal,
     stops: &Stops,
     snapshots: &mut Snapshots,
-    shown: &Playback,
+    playback: &mut Playback,
     progress: &mut P,
 ) -> Result<Option<u64>, NoMemory>
-    requires shown { IsPlayed boot.now journal.now.events shown.now }
+    requires played { IsPlayed boot.now journal.now.events playback.old }
     requires kept { AreKept boot.now journal.now.events snapshots.old.kept }
     ensures least { IfOk result
-        (IsLeast (IsStop stops.now boot.now journal.now.events) (shown.now.at + 1) (length journal.now.events)) }
+        (IsLeast (IsStop stops.now boot.now journal.now.events) (playback.old.at + 1) (length journal.now.events)) }
+    ensures played { IsPlayed boot.now journal.now.events playback.new }
     ensures kept { AreKept boot.now journal.now.events snapshots.new.kept }
 {
     let len = journal.len();
-    if shown.at == len {
+    if playback.at == len {
         return Ok(None);
     }
-    let mut playback = shown.try_copy()?;
-    play_on(
-        boot,
-        journal,
-        snapshots,
-        &mut playback,
-        shown.at + 1,
-        progress,
-    )?;
-    stop_from(
-        boot,
-        journal,
-        stops,
-        snapshots,
-        &mut playback,
-        len,
-        progress,
-    )
+    let next = playback.at + 1;
+    play_on(boot, journal, snapshots, playback, next, progress)?;
+    stop_from(boot, journal, stops, snapshots, playback, len, progress)
 }
 
 /// The first stop from the position of a board on, before another position. It lets the board play on, to wherever the
@@ -200,32 +186,34 @@ pub(crate) fn stop_from<P: Progress>(
     Ok(None)
 }
 
-/// The last stop before the position of the board that is shown, from another position on. It looks from one snapshot
-/// to the next, and then from the one before that, and tells at each how far it is.
+/// The last stop from a position on, before another one. It looks from one snapshot to the next, and then from the one
+/// before that, by a board that it lets go back, and tells at each how far it is.
 pub(crate) fn stop_before<P: Progress>(
     boot: &Board,
     journal: &Journal,
     stops: &Stops,
     snapshots: &Snapshots,
-    shown: &Playback,
+    playback: &mut Playback,
     begin: u64,
+    end: u64,
     progress: &mut P,
 ) -> Result<Option<u64>, NoMemory>
-    requires shown { IsPlayed boot.now journal.now.events shown.now }
+    requires played { IsPlayed boot.now journal.now.events playback.old }
     requires kept { AreKept boot.now journal.now.events snapshots.now.kept }
-    ensures { IfOk result (IsGreatest (IsStop stops.now boot.now journal.now.events) begin shown.now.at) }
+    requires within { end ≤ length journal.now.events }
+    ensures greatest { IfOk result (IsGreatest (IsStop stops.now boot.now journal.now.events) begin end) }
+    ensures played { IsPlayed boot.now journal.now.events playback.new }
 {
-    let mut to = shown.at;
-    let mut playback = shown.try_copy()?;
+    let mut to = end;
     while to > begin {
-        put_between(&mut playback, boot, journal, snapshots, begin, to - 1)?;
+        put_between(playback, boot, journal, snapshots, begin, to - 1)?;
         let from = playback.at;
-        let found = last_stop(&mut playback, journal, stops, to);
+        let found = last_stop(playback, journal, stops, to);
         if found.is_some() {
             return Ok(found);
         }
         to = from;
-        progress.show(shown.at.saturating_sub(to), shown.at);
+        progress.show(end.saturating_sub(to), end);
     }
     Ok(None)
 }

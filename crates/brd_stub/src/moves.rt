@@ -1,6 +1,7 @@
 //! Moves: on to the next stop, and back to the last one.
 
 ghost use Rattle.std.specs.Prelude.{◌≡◌, Some, OnOk, IfOk, IfSome, IfNone};
+ghost use Rattle.brd_debug.specs.Debugger.{SeesAhead};
 ghost use Rattle.brd_stub.specs.Moving.{
   after_next,
   step_done,
@@ -73,9 +74,10 @@ fn stop_here(debugger: &mut Debugger, origin: Origin<'_>) -> Result<Option<Stop>
         return Ok(None);
     };
     if !stops(origin.told, &look) {
+        debugger.keep(look);
         return Ok(None);
     }
-    let stop = stand(debugger, origin, &look)?;
+    let stop = stand(debugger, origin, look)?;
     Ok(Some(stop))
 }
 
@@ -107,20 +109,24 @@ fn stop_ahead(debugger: &mut Debugger, origin: Origin<'_>) -> Result<Stop, NoMem
         ..origin
     };
     match debugger.look()? {
-        Some(look) => stand(debugger, untold, &look),
+        Some(look) => stand(debugger, untold, look),
         None => Ok(stop_there(debugger, untold, Reason::Done)),
     }
 }
 
 /// Stops before the event of its position, or after it where that is nothing else than a stop of who is stepped.
-fn stand(debugger: &mut Debugger, origin: Origin<'_>, look: &Look) -> Result<Stop, NoMemory>
+fn stand(debugger: &mut Debugger, origin: Origin<'_>, look: Look) -> Result<Stop, NoMemory>
+    requires { SeesAhead debugger.old (Some look) }
     ensures { IfOk result (λ stop.
         record { debugger = debugger.new; stop = stop }
-        ≡ stand origin.entry.points.now origin.entry.last origin.entry.told (Some look.now) debugger.old) }
+        ≡ stand origin.entry.points.now origin.entry.last origin.entry.told (Some look) debugger.old) }
 {
-    if shows(origin.told, look) {
-        return Ok(stop_before(debugger, origin, look, false));
+    if shows(origin.told, &look) {
+        let stop = stop_before(debugger, origin, &look, false);
+        debugger.keep(look);
+        return Ok(stop);
     }
+    debugger.keep(look);
     show_next(debugger)?;
     Ok(step_done(debugger, origin))
 }
@@ -227,9 +233,10 @@ fn stop_or_back<P: Progress>(
         None => Ok(stop_there(debugger, origin, Reason::Done)),
         Some(look) => {
             if passes(is_told, &look) {
+                debugger.keep(look);
                 return search_behind(debugger, origin, progress);
             }
-            stand_behind(debugger, origin, is_told, &look)
+            stand_behind(debugger, origin, is_told, look)
         }
     }
 }
@@ -260,7 +267,7 @@ fn stop_behind(debugger: &mut Debugger, origin: Origin<'_>) -> Result<Stop, NoMe
 {
     match debugger.look()? {
         None => Ok(stop_there(debugger, origin, Reason::Done)),
-        Some(look) => stand_behind(debugger, origin, false, &look),
+        Some(look) => stand_behind(debugger, origin, false, look),
     }
 }
 
@@ -269,11 +276,12 @@ fn stand_behind(
     debugger: &mut Debugger,
     origin: Origin<'_>,
     is_told: bool,
-    look: &Look,
+    look: Look,
 ) -> Result<Stop, NoMemory>
+    requires { SeesAhead debugger.old (Some look) }
     ensures { IfOk result (λ stop.
         record { debugger = debugger.new; stop = stop }
-        ≡ stand_behind origin.entry.points.now origin.entry.last is_told (Some look.now) debugger.old) }
+        ≡ stand_behind origin.entry.points.now origin.entry.last is_told (Some look) debugger.old) }
 {
     if look.touches && !is_told {
         return stop_after(debugger, origin, look);
@@ -283,21 +291,26 @@ fn stand_behind(
             told: Told::Nothing,
             ..origin
         };
-        return Ok(stop_before(debugger, untold, look, is_told));
+        let stop = stop_before(debugger, untold, &look, is_told);
+        debugger.keep(look);
+        return Ok(stop);
     }
+    debugger.keep(look);
     Ok(step_done(debugger, origin))
 }
 
 /// Stops after the event of its position, the watch of which is told.
-fn stop_after(debugger: &mut Debugger, origin: Origin<'_>, look: &Look) -> Result<Stop, NoMemory>
+fn stop_after(debugger: &mut Debugger, origin: Origin<'_>, look: Look) -> Result<Stop, NoMemory>
+    requires { SeesAhead debugger.old (Some look) }
     ensures { IfOk result (λ stop.
         record { debugger = debugger.new; stop = stop }
-        ≡ stands_behind origin.entry.points.now origin.entry.last look.now debugger.old) }
+        ≡ stands_behind origin.entry.points.now origin.entry.last look debugger.old) }
 {
     let halt = Halt {
         thread: thread_of(origin.last, debugger.show(), look.event),
-        reason: watched(origin.points, debugger.show(), look),
+        reason: watched(origin.points, debugger.show(), &look),
     };
+    debugger.keep(look);
     show_next(debugger)?;
     Ok(Stop {
         halt,

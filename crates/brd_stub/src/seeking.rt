@@ -7,11 +7,8 @@ use brd_base::NoMemory;
 use brd_debug::Debugger;
 use brd_progress::Progress;
 
-/// How many events a search forward looks at before it asks whether it is to end (own choice).
+/// How many events a search looks at before it asks whether it is to end (own choice).
 const PIECE: u64 = 1_048_576;
-
-/// The same of a search backward, which plays many of them twice (own choice).
-const PIECE_BACK: u64 = 262_144;
 
 /// How a search has ended.
 #[derive(Clone, Copy, PartialEq, Eq)]
@@ -59,7 +56,7 @@ pub fn search_back<P: Progress>(
     let from = debugger.position();
     let mut at = from;
     while at > 0 {
-        let begin = at.saturating_sub(PIECE_BACK);
+        let begin = at.saturating_sub(PIECE);
         if let Some(found) = debugger.seek_back(begin)? {
             return Ok(Search::Stop(found));
         }
