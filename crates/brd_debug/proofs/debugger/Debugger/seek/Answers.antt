@@ -14,10 +14,10 @@ returns-in_ok-show_at-in-Some-clause-least c =
     subst (IsLeastOf c.args.end c.args.self.now) c.in-Some.is
     (subst (λ (d : DebuggerState). IsLeastOf c.args.end d c.in_ok-found.found) c.self.view_is
     (subst (λ (p : Playback). IsLeast (IsStop c.self.inside.stops c.self.inside.boot c.self.inside.journal.events) p.at c.args.end c.in_ok-found.found)
-    c.in_ok-playback.ensures c.in_ok-found.ensures.least))
+    c.in_ok-playback.ensures.here c.in_ok-found.ensures.least))
 
 pub returns-in-None-clause-least : goal.returns-in-None-clause-least
 returns-in-None-clause-least c =
     subst (λ (d : DebuggerState). IsLeastOf c.args.end d c.in_ok-found.found) c.self.view_is
     (subst (λ (p : Playback). IsLeast (IsStop c.self.inside.stops c.self.inside.boot c.self.inside.journal.events) p.at c.args.end c.in_ok-found.found)
-    c.in_ok-playback.ensures c.in_ok-found.ensures.least)
+    c.in_ok-playback.ensures.here c.in_ok-found.ensures.least)

@@ -11,8 +11,8 @@ IsGreatestOf begin d found = IsGreatest (IsStop d.stops d.boot d.events) begin d
 pub returns-in_ok-show_at-in-Some-clause-greatest : goal.returns-in_ok-show_at-in-Some-clause-greatest
 returns-in_ok-show_at-in-Some-clause-greatest c =
     subst (IsGreatestOf c.args.begin c.args.self.now) c.in-Some.is
-    (subst (λ (d : DebuggerState). IsGreatestOf c.args.begin d c.in_ok-found.found) c.self.view_is c.in_ok-found.ensures)
+    (subst (λ (d : DebuggerState). IsGreatestOf c.args.begin d c.in_ok-found.found) c.self.view_is c.in_ok-found.ensures.greatest)
 
 pub returns-in_ok-show_at-in-None-clause-greatest : goal.returns-in_ok-show_at-in-None-clause-greatest
 returns-in_ok-show_at-in-None-clause-greatest c =
-    subst (λ (d : DebuggerState). IsGreatestOf c.args.begin d c.in_ok-found.found) c.self.view_is c.in_ok-found.ensures
+    subst (λ (d : DebuggerState). IsGreatestOf c.args.begin d c.in_ok-found.found) c.self.view_is c.in_ok-found.ensures.greatest
