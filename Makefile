@@ -88,10 +88,11 @@ $(BOARD):
 gate-times:
 	tests/gate/gate_time --write
 
-# Speed, on this machine, of the program of dist/: of `debug` and of races in millions of events a second, of `run` beside
-# QEMU, in millions of instructions, of `explore` beside SPIN, in seconds.
+# Speed, on this machine, of the program of dist/: of `debug` and of races in millions of events a second, of the steps
+# of `gdb`, of `run` beside QEMU, in millions of instructions, of `explore` beside SPIN, in seconds.
 bench: unpack
 	tests/programs/debug_speed $(BOARD)
+	tests/programs/gdb_speed $(BOARD)
 	tests/programs/race_speed $(BOARD)
 	tests/programs/speed_qemu $(BOARD)
 	tests/programs/search_speed $(BOARD)

@@ -1073,4 +1073,79 @@ if have script "GDB's text interface"; then
         grep -aq 'Register' "$work/said" && grep -aq 'B+>' "$work/said" &&
             grep -aqE 'Thread 1( ".*")? hit Breakpoint 1' "$work/said" || tail -c 3000 "$work/said" | cat -v)"
 fi
+
+# A move that would take an hour ends where GDB asks for that: by the byte 3, and by Ctrl-C in GDB.
+elf=$work/endless.elf
+printf '%s\n' 'first: addiu $t0, $t0, 1' ' b first' ' nop' > "$work/endless.s"
+"$board" asm "$work/endless.s" "$elf"
+cfg=$work/endless.cfg
+printf '%s\n' 'BOARD(1, 0x10000);' 'CRE_TSK(1, {TA_HLNG | TA_ACT, 0, first, 1, 1024, NULL});' > "$cfg"
+journal=$work/endless.journal
+printf '%s\n' 'board-journal 2 big' 'S 1 100000000000' > "$journal"
+python3 - "$board" "$elf" "$cfg" "$journal" > "$work/said" 2>&1 << 'END'
+import select, subprocess, sys, time
+
+server = subprocess.Popen([sys.argv[1], "gdb", *sys.argv[2:]], stdin=subprocess.PIPE, stdout=subprocess.PIPE, bufsize=0)
+come = b""
+
+def send(text):
+    server.stdin.write(b"$%s#%02x" % (text, sum(text) % 256))
+
+def reply():
+    global come
+    while True:
+        end = come.find(b"#") + 3
+        if 3 <= end <= len(come):
+            packet, come = come[:end].lstrip(b"+")[1:-3], come[end:]
+            if packet == b"OK" or not packet.startswith(b"O"):
+                return packet.decode()
+            print(bytes.fromhex(packet[1:].decode()).decode(), end="")
+        elif select.select([server.stdout], [], [], 60)[0]:
+            come += server.stdout.read(4096)
+        else:
+            sys.exit("no answer")
+
+def ask(request):
+    send(request)
+    print(reply())
+
+def interrupt(move):
+    send(move)
+    if select.select([server.stdout], [], [], 1)[0]:
+        print("it has stopped by itself")
+    begun = time.monotonic()
+    server.stdin.write(b"\x03")
+    print(reply(), "soon" if time.monotonic() - begun < 10 else "late")
+
+ask(b"QStartNoAckMode")
+interrupt(b"vCont;c")
+interrupt(b"vCont;c")
+ask(b"vCont;s:1")
+server.stdin.write(b"\x03")
+ask(b"bs")
+ask(b"Z0,80000ff0,4")
+interrupt(b"bc")
+ask(b"qRcmd," + b"goto 0".hex().encode())
+send(b"k")
+print(server.wait(60))
+END
+printf '%s\n' OK 'T02thread:01; soon' 'T02thread:01; soon' 'T05thread:01;' 'T05thread:01;' OK 'T02thread:01; soon' \
+    'at 0' OK 0 > "$work/wanted"
+verdict "gdb: the byte 3 ends a move" "$(cmp -s "$work/said" "$work/wanted" || cat "$work/said")"
+cat > "$work/interrupted.py" << 'END'
+import os, signal, threading
+threading.Timer(2, os.kill, (os.getpid(), signal.SIGINT)).start()
+END
+session "Ctrl-C" << END
+> source $work/interrupted.py
+> continue
+Thread 1( ".*")? received signal SIGINT, Interrupt\\.
+.*
+> printf "%d\\n", \$t0 > 0
+1
+> reverse-stepi
+.*
+> monitor goto 0
+at 0
+END
 summary

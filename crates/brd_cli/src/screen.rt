@@ -1,8 +1,11 @@
 //! How far a long command is, on a terminal, and what is odd about a command's input.
 
+use crate::typed::Inbox;
 use brd_command::Progress;
+use std::alloc::Global;
 use std::fmt;
 use std::io::IsTerminal;
+use std::sync::Arc;
 use std::time::{Duration, Instant};
 
 /// How many milliseconds of work pass before it is shown how far it is (own choice).
@@ -27,6 +30,8 @@ pub enum Reader {
 #[derive(Drop)]
 pub struct Screen<'a> {
     rt: &'a HostRuntime,
+    /// Where it is seen whether work is to stop, if it is.
+    inbox: Option<Arc<Inbox, Global>>,
     /// When the program began, if the clock can be read.
     began: Option<Instant>,
     /// The same; `None` if nothing is shown.
@@ -41,11 +46,17 @@ pub struct Screen<'a> {
 }
 
 impl<'a> Screen<'a> {
-    /// The line of a program that begins now. It is told whether the program has a dialogue by standard input.
-    pub fn new(rt: &'a HostRuntime, is_dialogue: bool) -> Screen<'a> {
+    /// The line of a program that begins now. It is told where it is seen whether work is to stop, and whether the
+    /// program has a dialogue by standard input.
+    pub fn new(
+        rt: &'a HostRuntime,
+        inbox: Option<Arc<Inbox, Global>>,
+        is_dialogue: bool,
+    ) -> Screen<'a> {
         let began = Instant::now(rt).ok();
         Screen {
             rt,
+            inbox,
             began,
             start: if rt.stderr().is_terminal() {
                 began
@@ -106,6 +117,14 @@ impl<'a> Progress for Screen<'a> {
     fn tried(&mut self, schedules: u64) {
         if self.is_due() {
             let _ = eprint!(self.rt; "\r{schedules} schedules tried, none fails so far\x1b[K");
+        }
+    }
+
+    /// By what GDB sends while a move is on.
+    fn is_asked_to_stop(&mut self) -> bool {
+        match &self.inbox {
+            Some(inbox) => inbox.is_interrupt_next(),
+            None => false,
         }
     }
 

@@ -25,7 +25,7 @@ use Rattle.brd_gdb.specs.declared.request.Request.TheVariants.{ReadRegisters, Re
 use Rattle.brd_image.specs.Headline.{Starts}
 use Rattle.brd_inputs.specs.Start.{IsStart}
 use Rattle.brd_inputs.specs.declared.fault.CommandFault.{CommandFault}
-use Rattle.brd_inputs.specs.declared.fault.CommandFault.TheVariants.{NoMemory, Read, TooLong, TooManyReads, Write}
+use Rattle.brd_inputs.specs.declared.fault.CommandFault.TheVariants.{NoMemory, Read, TooManyReads, Write}
 use Rattle.brd_inputs.specs.declared.start.Start.{Start}
 use Rattle.brd_report.specs.Output.{AppendsFront, Writes, WritesFront}
 use Rattle.brd_running.specs.AsmCommand.{IsObjectFile}
@@ -436,7 +436,6 @@ module _ (source elf config journal text : List ℕ) (object : IsObjectFile sour
       → WritesFront (ShowsFirstAnswers source elf config journal text) old new
   stopped NoMemory stops = of_first stops
   stopped (Read from error) stops = of_first stops.2
-  stopped (TooLong from) stops = of_first stops.2
   stopped (TooManyReads from) stops = of_first stops.1
   stopped (Write error) stops = of_cut stops
   stopped fault stops = absurd stops

@@ -1,28 +1,26 @@
 -- Bytes that are answered one after the other.
-use Rattle.std.proofs.Common.{◌≡◌, ◌≢◌, ◌+◌, ◌<◌, ◌≤◌, ◌==◌, ◌∙◌, ℕ, Bool, true, false, List, [], ◌∷◌, ◌++◌, length, refl, sym, ap, subst, inl, inr, arith}
+use Rattle.std.proofs.Common.{◌≡◌, ◌≢◌, ◌∙◌, ℕ, Bool, true, false, List, ◌∷◌, ◌++◌, refl, sym, subst, inl}
 use Rattle.std.specs.Prelude.{◌⊎◌, Option, Some, None, IfSome, Result, Ok, Err}
 use Rattle.std.specs.Result.{IsErrAnd}
 use Rattle.std.specs.Io.KnownBytes.{Appends}
 use Rattle.std.specs.IoError.{error_kind}
 use Rattle.std.specs.declared.io.ErrorKind.{ErrorKind}
 use Rattle.std.specs.declared.io.ErrorKind.TheVariants.{OutOfMemory, UnexpectedEof}
-use Rattle.std.proofs.lemmas.Bool.{cases_Bool}
 use Rattle.brd_gdb.specs.declared.request.Request.{Request}
 use Rattle.brd_gdb.specs.declared.request.Request.TheVariants.{StartNoAckMode, Detach, Kill, KillProcess}
 use Rattle.brd_gdb.specs.declared.request.Request.TheVariants.{Forward, BackwardContinue, BackwardStep, Monitor}
 use Rattle.brd_stub.specs.Answers.{Shows}
 use Rattle.brd_stub.specs.declared.session.Session.{Session}
-use Rattle.brd_running.specs.DebugLine.{line_size}
-use Rattle.brd_command.specs.GdbCommand.{EndsServing, IsCutOff, ServesCutShort, ServesFirst, ServesGdb, ServesToEnd, StopsServing}
+use Rattle.brd_command.specs.GdbCommand.{EndsServing, IsCutOff, KeepsByte, ServesCutShort, ServesFirst, ServesGdb, ServesToEnd}
+use Rattle.brd_command.specs.GdbCommand.{StopsServing}
 use Rattle.brd_command.specs.Serving.{AddsAnswer, AnswersPacket, HasServed, IsReady, IsShown, Serves, accepted}
 use Rattle.brd_command.specs.Serving.HasServed.{one_more as one_more_served}
-use Rattle.brd_running.specs.Lines.{CountsByte, KeepsFromTaking, TakesByte}
+use Rattle.brd_running.specs.Lines.{TakesByte}
 use Rattle.brd_command.specs.declared.gdb_server.Server.{Server}
-use Rattle.brd_running.specs.declared.lines.Taken.{Taken}
-use Rattle.brd_inputs.specs.Input.{most_bytes}
 use Rattle.brd_inputs.specs.Start.{AreWithin, IsStart}
 use Rattle.brd_inputs.specs.declared.fault.CommandFault.{CommandFault}
-use Rattle.brd_inputs.specs.declared.fault.CommandFault.TheVariants.{NoMemory, Argument, Words, Source, ImageTooLarge, Open, Read, TooLong, TooManyReads, Build, Journal, OtherOrder, Script, Race, Trace, Schedule, Search, Fails, Passes, Write}
+use Rattle.brd_inputs.specs.declared.fault.CommandFault.TheVariants.{NoMemory, Read, TooManyReads}
+use Rattle.brd_inputs.specs.declared.input_name.InputName.TheVariants.{StandardInput}
 use Rattle.brd_inputs.specs.declared.start.Start.{Start}
 use Rattle.brd_report.specs.Output.{AppendsFront, Writes}
 use Rattle.brd_report.proofs.OutputLemmas.{one_more}
@@ -48,74 +46,49 @@ shown-so (Monitor command) said text same = tt
 shown-so other said text same = same
 
 -- The answers to the bytes of a text, but for those of what is left of it, were written.
-abbrev pub IsServed : Server → List ℕ → Option (List ℕ) → ℕ → Server → Option (List ℕ) → Option (List ℕ) → Type 0
-IsServed first text left taken s old now =
-    (rest : List ℕ) × (bytes : List ℕ) × (left ≡ Some rest) × (taken + length rest ≡ length text)
-    × HasServed first text bytes s rest × Appends old now bytes
-
--- a line has no more bytes than the text
-line_within : (text : List ℕ) → line_size text ≤ length text
-line_within [] = omega arith
-line_within (b ∷ bs) =
-    elim (cases_Bool (b == 10)) [
-      | inl newline ↦ rw newline (omega arith)
-      | inr other ↦ rw other (omega (arith, line_within bs))
-    ]
+abbrev pub IsServed : Server → List ℕ → Option (List ℕ) → Server → Option (List ℕ) → Option (List ℕ) → Type 0
+IsServed first text left s old now =
+    (rest : List ℕ) × (bytes : List ℕ) × (left ≡ Some rest) × HasServed first text bytes s rest × Appends old now bytes
 
 no_memory_kind : (kind : ErrorKind) → kind ≡ UnexpectedEof → kind ≢ OutOfMemory
 no_memory_kind kind is other = absurd (let e : UnexpectedEof ≡ OutOfMemory = sym is ∙ other in cc)
 
 -- The next byte couldn't be taken.
-module _ (first s : Server) (left : Option (List ℕ)) (taken : Taken) (old now : Option (List ℕ)) where
-  pub first_served : (text : List ℕ) → IsServed first text left taken.bytes s old now → Writes (ServesFirst first text) old now
-  first_served text (rest, bytes, is, counted, done, written) =
+module _ (first s : Server) (left : Option (List ℕ)) (old now : Option (List ℕ)) where
+  pub first_served : (text : List ℕ) → IsServed first text left s old now → Writes (ServesFirst first text) old now
+  first_served text (rest, bytes, is, done, written) =
       record { bytes = bytes; are_meant = record { last = s; left = rest; done = done }; written = written }
 
-  longer : (text : List ℕ) → ((t : List ℕ) → left ≡ Some t → most_bytes < taken.bytes + line_size t)
-      → IsServed first text left taken.bytes s old now → most_bytes < length text
-  longer text beyond (rest, bytes, is, counted, done, written) =
-      omega (arith, counted, beyond rest is, line_within rest)
+  stopped_by : (text : List ℕ) (fault : CommandFault) → KeepsByte fault → Writes (ServesFirst first text) old now
+      → StopsServing fault first text old now
+  stopped_by text NoMemory keeps served = served
+  stopped_by text (Read from error) keeps served = (keeps.0, keeps.1, served)
+  stopped_by text (TooManyReads from) keeps served = (keeps, served)
+  stopped_by text fault keeps served = absurd keeps
 
-  stopped_text : (text : List ℕ) (fault : CommandFault) → ((t : List ℕ) → left ≡ Some t → KeepsFromTaking taken t fault)
-      → IsServed first text left taken.bytes s old now → StopsServing fault first text old now
-  stopped_text text NoMemory keeps served = first_served text served
-  stopped_text text (Read from error) keeps served =
-      let why = keeps served.0 served.2 in (why.0, why.1, first_served text served)
-  stopped_text text (TooLong from) keeps served =
-      ((keeps served.0 served.2).0, longer text (λ t is. (keeps t is).1) served, first_served text served)
-  stopped_text text (TooManyReads from) keeps served = (keeps served.0 served.2, first_served text served)
-  stopped_text text Argument keeps served = absurd (keeps served.0 served.2)
-  stopped_text text (Words fault) keeps served = absurd (keeps served.0 served.2)
-  stopped_text text (Source fault excerpt kind) keeps served = absurd (keeps served.0 served.2)
-  stopped_text text ImageTooLarge keeps served = absurd (keeps served.0 served.2)
-  stopped_text text (Open name error) keeps served = absurd (keeps served.0 served.2)
-  stopped_text text (Build fault kind) keeps served = absurd (keeps served.0 served.2)
-  stopped_text text (Journal fault kind) keeps served = absurd (keeps served.0 served.2)
-  stopped_text text (OtherOrder order) keeps served = absurd (keeps served.0 served.2)
-  stopped_text text (Script fault kind) keeps served = absurd (keeps served.0 served.2)
-  stopped_text text (Race fault) keeps served = absurd (keeps served.0 served.2)
-  stopped_text text (Trace fault) keeps served = absurd (keeps served.0 served.2)
-  stopped_text text (Schedule fault) keeps served = absurd (keeps served.0 served.2)
-  stopped_text text (Search fault) keeps served = absurd (keeps served.0 served.2)
-  stopped_text text Fails keeps served = absurd (keeps served.0 served.2)
-  stopped_text text Passes keeps served = absurd (keeps served.0 served.2)
-  stopped_text text (Write error) keeps served = absurd (keeps served.0 served.2)
-
-  pub stopped : (input : Option (List ℕ)) (fault : CommandFault) → ((t : List ℕ) → left ≡ Some t → KeepsFromTaking taken t fault)
-      → ((text : List ℕ) → input ≡ Some text → IsServed first text left taken.bytes s old now)
+  pub stopped : (input : Option (List ℕ)) (fault : CommandFault) → ((t : List ℕ) → left ≡ Some t → KeepsByte fault)
+      → ((text : List ℕ) → input ≡ Some text → IsServed first text left s old now)
       → IfSome input (λ text. StopsServing fault first text old now)
   stopped None fault keeps served = tt
-  stopped (Some text) fault keeps served = stopped_text text fault keeps (served text refl)
+  stopped (Some text) fault keeps served =
+      let it = served text refl in
+      stopped_by text fault (keeps it.0 it.2) (first_served text it)
+
+  -- it was read too often
+  pub read_too_often : (input : Option (List ℕ)) → ((text : List ℕ) → input ≡ Some text → IsServed first text left s old now)
+      → IfSome input (λ text. StopsServing (TooManyReads StandardInput) first text old now)
+  read_too_often None served = tt
+  read_too_often (Some text) served = (refl, first_served text (served text refl))
 
   -- memory ran out
-  pub no_memory : (input : Option (List ℕ)) → ((text : List ℕ) → input ≡ Some text → IsServed first text left taken.bytes s old now)
+  pub no_memory : (input : Option (List ℕ)) → ((text : List ℕ) → input ≡ Some text → IsServed first text left s old now)
       → IfSome input (λ text. Writes (ServesFirst first text) old now)
   no_memory None served = tt
   no_memory (Some text) served = first_served text (served text refl)
 
   pub memory_ran_out : (input : Option (List ℕ)) (result : Result Unit CommandFault) (unread : Option (List ℕ))
       → IsErrAnd result (λ fault. fault ≡ NoMemory)
-      → ((text : List ℕ) → input ≡ Some text → IsServed first text left taken.bytes s old now)
+      → ((text : List ℕ) → input ≡ Some text → IsServed first text left s old now)
       → IfSome input (λ text. EndsServing result first text unread old now)
   memory_ran_out input (Ok done) unread is served = absurd is
   memory_ran_out input (Err fault) unread is served =
@@ -123,14 +96,14 @@ module _ (first s : Server) (left : Option (List ℕ)) (taken : Taken) (old now 
       subst P (sym is) (no_memory input served)
 
   -- the input has ended
-  cut_text : (text : List ℕ) (fault : CommandFault) → IsCutOff fault → IsServed first text left taken.bytes s old now
+  cut_text : (text : List ℕ) (fault : CommandFault) → IsCutOff fault → IsServed first text left s old now
       → StopsServing fault first text old now
   cut_text text (Read from error) cut served =
       (cut.0, no_memory_kind (error_kind error) cut.1, first_served text served)
   cut_text text fault cut served = absurd cut
 
   pub cut_off : (input : Option (List ℕ)) (fault : CommandFault) → IsCutOff fault
-      → ((text : List ℕ) → input ≡ Some text → IsServed first text left taken.bytes s old now)
+      → ((text : List ℕ) → input ≡ Some text → IsServed first text left s old now)
       → IfSome input (λ text. StopsServing fault first text old now)
   cut_off None fault cut served = tt
   cut_off (Some text) fault cut served = cut_text text fault cut (served text refl)
@@ -146,8 +119,8 @@ answered meant request s after old bytes is front no_mode no_detach no_process n
     subst P is (by_session request s after bytes no_mode no_detach no_process no_kill (subst A front adds))
 
 -- A byte was taken.
-module _ (first s : Server) (left after : Option (List ℕ)) (taken next : Taken) (found : Option ℕ) (old now : Option (List ℕ))
-    (takes : (t : List ℕ) → left ≡ Some t → TakesByte t found after) (counts : CountsByte taken found next)
+module _ (first s : Server) (left after : Option (List ℕ)) (found : Option ℕ) (old now : Option (List ℕ))
+    (takes : (t : List ℕ) → left ≡ Some t → TakesByte t found after)
     (byte : ℕ) (some : found ≡ Some byte) (answer : List ℕ) (is_over : Bool) (behind : Server)
     (serves : Serves s byte answer is_over behind) (new : Option (List ℕ)) where
   done_before : (text rest bytes : List ℕ) → HasServed first text bytes s rest → (more : List ℕ) → rest ≡ byte ∷ more
@@ -155,24 +128,22 @@ module _ (first s : Server) (left after : Option (List ℕ)) (taken next : Taken
   done_before text rest bytes done more is = subst (λ (xs : List ℕ). HasServed first text bytes s xs) is done
 
   -- the answer was written, and there may be more
-  pub more_served : (text : List ℕ) → is_over ≡ false → Appends now new answer → IsServed first text left taken.bytes s old now
-      → IsServed first text after next.bytes behind old new
-  more_served text goes_on appends (rest, bytes, is, counted, done, written) =
-      let step = subst (λ f. TakesByte rest f after) some (takes rest is) in
-      let more = subst (λ f. CountsByte taken f next) some counts in (
+  pub more_served : (text : List ℕ) → is_over ≡ false → Appends now new answer → IsServed first text left s old now
+      → IsServed first text after behind old new
+  more_served text goes_on appends (rest, bytes, is, done, written) =
+      let step = subst (λ f. TakesByte rest f after) some (takes rest is) in (
         step.0,
         bytes ++ answer,
         step.1,
-        omega (arith, counted, more.0, ap length step.2),
         one_more_served bytes answer s behind byte step.0 (done_before text rest bytes done step.0 step.2)
             (subst (λ (o : Bool). Serves s byte answer o behind) goes_on serves),
         one_more old now new bytes answer written appends,
       )
 
   -- the answer was written, and was the last
-  last_text : (text : List ℕ) → is_over ≡ true → Appends now new answer → IsServed first text left taken.bytes s old now
+  last_text : (text : List ℕ) → is_over ≡ true → Appends now new answer → IsServed first text left s old now
       → Writes (ServesToEnd first text after) old new
-  last_text text over appends (rest, bytes, is, counted, done, written) =
+  last_text text over appends (rest, bytes, is, done, written) =
       let step = subst (λ f. TakesByte rest f after) some (takes rest is) in
       record {
         bytes = bytes ++ answer;
@@ -192,15 +163,15 @@ module _ (first s : Server) (left after : Option (List ℕ)) (taken next : Taken
       }
 
   pub last_served : (input : Option (List ℕ)) → is_over ≡ true → Appends now new answer
-      → ((text : List ℕ) → input ≡ Some text → IsServed first text left taken.bytes s old now)
+      → ((text : List ℕ) → input ≡ Some text → IsServed first text left s old now)
       → IfSome input (λ text. Writes (ServesToEnd first text after) old new)
   last_served None over appends served = tt
   last_served (Some text) over appends served = last_text text over appends (served text refl)
 
   -- a front of the answer was written
-  front_text : (text : List ℕ) → AppendsFront now new answer → IsServed first text left taken.bytes s old now
+  front_text : (text : List ℕ) → AppendsFront now new answer → IsServed first text left s old now
       → Writes (ServesCutShort first text) old new
-  front_text text front (rest, bytes, is, counted, done, written) =
+  front_text text front (rest, bytes, is, done, written) =
       let step = subst (λ f. TakesByte rest f after) some (takes rest is) in
       record {
         bytes = bytes ++ front.front;
@@ -223,7 +194,7 @@ module _ (first s : Server) (left after : Option (List ℕ)) (taken next : Taken
       }
 
   pub front_served : (input : Option (List ℕ)) → AppendsFront now new answer
-      → ((text : List ℕ) → input ≡ Some text → IsServed first text left taken.bytes s old now)
+      → ((text : List ℕ) → input ≡ Some text → IsServed first text left s old now)
       → IfSome input (λ text. Writes (ServesCutShort first text) old new)
   front_served None front served = tt
   front_served (Some text) front served = front_text text front (served text refl)

@@ -1,5 +1,5 @@
 -- The command `gdb`: what it writes for what it reads, and how it ends where it doesn't.
-use Rattle.std.specs.Prelude.{◌≡◌, ◌≢◌, ◌⊎◌, ℕ, ◌<◌, Bool, true, List, ◌∷◌, ◌++◌, length, Option, Some, IfSome, Result}
+use Rattle.std.specs.Prelude.{◌≡◌, ◌≢◌, ◌⊎◌, ℕ, Bool, true, List, ◌∷◌, ◌++◌, Option, Some, IfSome, Result}
 use Rattle.std.specs.Prelude.{Ok, Err}
 use Rattle.std.specs.IoError.{error_kind}
 use Rattle.std.specs.declared.io.Error.{Error}
@@ -8,10 +8,9 @@ use Rattle.brd_running.specs.Debugging.{GivesNoDebugger}
 use Rattle.brd_running.specs.Files.{FilesEnd}
 use Rattle.brd_command.specs.Serving.{HasServed, IsReady, Serves}
 use Rattle.brd_command.specs.declared.gdb_server.Server.{Server}
-use Rattle.brd_inputs.specs.Input.{most_bytes}
 use Rattle.brd_inputs.specs.Start.{AreWithin, IsStart}
 use Rattle.brd_inputs.specs.declared.fault.CommandFault.{CommandFault}
-use Rattle.brd_inputs.specs.declared.fault.CommandFault.TheVariants.{NoMemory, Read, TooLong, TooManyReads, Write}
+use Rattle.brd_inputs.specs.declared.fault.CommandFault.TheVariants.{NoMemory, Read, TooManyReads, Write}
 use Rattle.brd_inputs.specs.declared.input_name.InputName.TheVariants.{StandardInput}
 use Rattle.brd_inputs.specs.declared.start.Start.{Start}
 use Rattle.brd_report.specs.Output.{Writes}
@@ -20,6 +19,13 @@ use Rattle.brd_report.specs.Output.{Writes}
 abbrev pub IsCutOff : CommandFault → Type 0
 IsCutOff (Read from error) = (from ≡ StandardInput) × (error_kind error ≡ UnexpectedEof)
 IsCutOff fault = ⊥
+
+-- What may keep the next byte from being read: memory, a read that failed, or reads that were interrupted too often.
+abbrev pub KeepsByte : CommandFault → Type 0
+KeepsByte NoMemory = Unit {0}
+KeepsByte (Read from error) = (from ≡ StandardInput) × (error_kind error ≢ OutOfMemory)
+KeepsByte (TooManyReads from) = from ≡ StandardInput
+KeepsByte fault = ⊥
 
 -- the answers to the first bytes of a text
 pub record ServesFirst (first : Server) (text bytes : List ℕ) : Type 0 where
@@ -56,14 +62,12 @@ pub record ServesCutShort (first : Server) (text bytes : List ℕ) : Type 0 wher
   pub whole : front ++ rest ≡ answer
   pub cut : bytes ≡ before ++ front
 
--- Why a server ends before GDB goes. The answers to the bytes before were written; where writing failed, a front of the
--- answer to the next one too. An input that ends is one that can't be read.
+-- Why a server ends before GDB goes; that much was sent is no reason. The answers to the bytes before were written;
+-- where writing failed, a front of the answer to the next one too. An input that ends is one that can't be read.
 abbrev pub StopsServing : CommandFault → Server → List ℕ → Option (List ℕ) → Option (List ℕ) → Type 0
 StopsServing NoMemory first text old new = Writes (ServesFirst first text) old new
 StopsServing (Read from error) first text old new =
     (from ≡ StandardInput) × (error_kind error ≢ OutOfMemory) × Writes (ServesFirst first text) old new
-StopsServing (TooLong from) first text old new =
-    (from ≡ StandardInput) × (most_bytes < length text) × Writes (ServesFirst first text) old new
 StopsServing (TooManyReads from) first text old new =
     (from ≡ StandardInput) × Writes (ServesFirst first text) old new
 StopsServing (Write error) first text old new = Writes (ServesCutShort first text) old new

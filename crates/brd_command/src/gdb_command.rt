@@ -3,11 +3,11 @@
 ghost use Rattle.std.specs.Prelude.{IfSome};
 ghost use Rattle.brd_command.specs.GdbCommand.{EndsServing, GdbEnds, GdbFilesEnd, IsCutOff};
 
+use crate::gdb_input::next_sent;
 use crate::gdb_server::Server;
 use brd_inputs::{CommandFault, Files, InputName, Inputs, open_inputs, read_start};
 use brd_progress::Progress;
 use brd_report::write_whole;
-use brd_running::{Taken, next_byte};
 use std::alloc::Global;
 use std::io::{self, ErrorKind, Read, Write};
 
@@ -69,13 +69,8 @@ fn serve_all<R: Read, W: Write, P: Progress>(
         EndsServing result server.old text (R.remaining input.new) (W.contents writer.old)
         (W.contents writer.new)) }
 {
-    let mut taken = Taken {
-        bytes: 0,
-        reads: 0,
-        ended: false,
-    };
-    loop {
-        let byte = match next_byte(input, &mut taken) {
+    for _ in 0..u64::MAX {
+        let byte = match next_sent(input) {
             Ok(Some(byte)) => byte,
             Ok(None) => return Err(cut_off()),
             Err(fault) => return Err(fault),
@@ -89,6 +84,7 @@ fn serve_all<R: Read, W: Write, P: Progress>(
             return Ok(());
         }
     }
+    Err(CommandFault::TooManyReads(InputName::StandardInput))
 }
 
 /// That standard input has ended before GDB went.

@@ -8,6 +8,7 @@
 
 mod gdb_command;
 mod gdb_history;
+mod gdb_input;
 mod gdb_server;
 mod journal_command;
 mod journal_options;

@@ -1,8 +1,9 @@
 mod MarkLemmas
 mod StopLemmas
 mod TouchingLemmas
-mod SearchLemmas
+pub mod SearchLemmas
 mod StillLemmas
 mod PlayingLemmas
+mod SpareLemmas
 mod NotedLemmas
 mod KeptLemmas

@@ -1,6 +1,6 @@
 -- The least and the greatest stop of a range, from those of its parts.
 use Rattle.std.proofs.Common.{◌≡◌, ℕ, ◌+◌, ◌<◌, ◌≤◌, refl, sym, subst, arith, inl, inr}
-use Rattle.std.specs.Prelude.{Bool, true, false, Decides, if◌then◌else◌, Option, Some, None, is_some}
+use Rattle.std.specs.Prelude.{Bool, true, false, Decides, if◌then◌else◌, Option, Some, None, is_some, IfNone}
 use Rattle.std.proofs.lemmas.Bool.{cases_lt, false≢true}
 use Rattle.brd_debug.specs.Stops.{NoneFrom, IsLeast, IsGreatest}
 
@@ -81,6 +81,10 @@ pub found-greatest : (Stop : ℕ → Type 0) (low from mid to : ℕ) (found : Op
     NoneFrom Stop mid to → IsGreatest Stop from mid found → IsGreatest Stop low to found
 found-greatest Stop low from mid to None some above below none is = absurd (false≢true some)
 found-greatest Stop low from mid to (Some n) some above below none is = greatest-whole Stop low from mid to n above below none is
+
+pub found-some : (P : Type 0) (found : Option ℕ) → is_some found ≡ true → IfNone found P
+found-some P None some = absurd (false≢true some)
+found-some P (Some n) some = tt
 
 pub none-of : (found : Option ℕ) → is_some found ≡ false → found ≡ None
 none-of None none = refl

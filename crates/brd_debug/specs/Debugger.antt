@@ -32,6 +32,11 @@ abbrev pub went : DebuggerState → Option ℕ → DebuggerState
 went d None = d
 went d (Some position) = record d { position = position }
 
+-- The same, where a search that finds nothing leads to another position.
+abbrev pub sought : DebuggerState → ℕ → Option ℕ → DebuggerState
+sought d other None = record d { position = other }
+sought d other (Some position) = record d { position = position }
+
 -- What the event of a debugger's position does, seen ahead; at the last position nothing is.
 abbrev pub SeesAhead : DebuggerState → Option Look → Type 0
 SeesAhead d None = slice_get d.events d.position ≡ None

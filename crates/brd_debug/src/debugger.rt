@@ -3,7 +3,7 @@
 ghost use Rattle.std.specs.Prelude.{◌≡◌, ◌+◌, ◌<◌, ◌≤◌, ◌^◌, length, take, slice_get, Decides, is_some, OnOk, OnErr};
 ghost use Rattle.std.specs.Prelude.{Some, IfOk, IfSome};
 ghost use Rattle.brd_board.specs.Board.{after};
-ghost use Rattle.brd_debug.specs.Debugger.{shown, Goes, went, SeesAhead};
+ghost use Rattle.brd_debug.specs.Debugger.{shown, Goes, went, sought, SeesAhead};
 ghost use Rattle.brd_journal.specs.Playing.{IsPlayed};
 ghost use Rattle.brd_debug.specs.Kept.{AreKept};
 ghost use Rattle.brd_debug.specs.Marks.{most_addresses, is_marked, marked, marked_within};
@@ -12,8 +12,9 @@ ghost use Rattle.brd_debug.specs.Stops.{no_stops, IsStop, IsLeast, IsGreatest};
 use crate::fault::DebugFault;
 use crate::look::Look;
 use crate::marks::{MOST_ADDRESSES, MOST_MARKS};
-use crate::search::{go_back, next_stop, play_near, played_to, stop_before};
+use crate::search::{go_back, next_stop, play_near, played_to, stop_before, stop_from};
 use crate::snapshots::Snapshots;
+use crate::spare::{any_board, board_here};
 use crate::stops::{Only, Stepper, Stops};
 use brd_base::NoMemory;
 use brd_board::{Board, Event};
@@ -21,6 +22,7 @@ use brd_journal::{Journal, Playback};
 use brd_progress::{Progress, Quiet};
 use std::alloc::Global;
 use std::marker::Model;
+use std::mem;
 
 /// A debugger: shows the board after n events of a journal, and finds the events at which it stops.
 pub struct Debugger {
@@ -28,10 +30,13 @@ pub struct Debugger {
     journal: Journal,
     stops: Stops,
     shown: Playback,
+    /// A board beside the one that is shown, if there is one: looks and searches play on it, so that they copy no RAM.
+    spare: Option<Playback>,
     snapshots: Snapshots,
 }
 
 impl Model for Debugger {
+    ghost use Rattle.std.specs.Prelude.{IfSome};
     ghost use Rattle.brd_debug.specs.Debugger.{DebuggerState};
     ghost use Rattle.brd_journal.specs.Playing.{IsPlayed};
     ghost use Rattle.brd_debug.specs.Kept.{AreKept};
@@ -41,7 +46,8 @@ impl Model for Debugger {
     ghost view = { λ d. record { boot = d.boot; events = d.journal.events; position = d.shown.at; stops = d.stops } };
 
     ghost invariant = { λ d. IsPlayed d.boot d.journal.events d.shown
-        × AreKept d.boot d.journal.events d.snapshots.kept };
+        × AreKept d.boot d.journal.events d.snapshots.kept
+        × IfSome d.spare (IsPlayed d.boot d.journal.events) };
 }
 
 /// Written out, so that a function that lets one go is proved with a call, and not with the end of each part.
@@ -52,6 +58,7 @@ impl Drop for Debugger {
             journal: _,
             stops: _,
             shown: _,
+            spare: _,
             snapshots: _,
         } = self;
     }
@@ -75,6 +82,7 @@ impl Debugger {
             journal,
             stops: Stops::new(),
             shown: Playback { board, at: 0 },
+            spare: None,
             snapshots: Snapshots::new(alloc),
         })
     }
@@ -216,14 +224,17 @@ impl Debugger {
         self.journal.event_at(self.shown.at)
     }
 
-    /// What the event of its position does; None at the last position. It stays where it is.
-    pub fn look(&self) -> Result<Option<Look>, NoMemory>
-        ensures { IfOk result (SeesAhead self.now) }
+    /// What the event of its position does; None at the last position. It stays where it is. What is seen may be given
+    /// back, by `keep`, so that the next look copies no RAM.
+    pub fn look(&mut self) -> Result<Option<Look>, NoMemory>
+        ensures sees { IfOk result (SeesAhead self.old) }
+        ensures stays { self.new ≡ self.old }
     {
         let Some(event) = self.journal.event_at(self.shown.at) else {
             return Ok(None);
         };
-        let mut board = self.shown.board.try_copy()?;
+        let ahead = board_here(&self.journal, &mut self.spare, &self.shown)?;
+        let mut board = ahead.board;
         let report = board.event_apart(event);
         Ok(Some(Look {
             event,
@@ -240,11 +251,26 @@ impl Debugger {
         }))
     }
 
+    /// Takes back what was seen of the event of its position: the board after it is the one beside it from now on.
+    pub fn keep(&mut self, look: Look)
+        requires { SeesAhead self.old (Some look) }
+        ensures { self.new ≡ self.old }
+    {
+        // For the proof alone: its contract says how few events there can be.
+        let _ = self.journal.len();
+        let at = self.shown.at + 1;
+        self.spare = Some(Playback {
+            board: look.into_board(),
+            at,
+        });
+    }
+
     /// What the event of its position does, where that is a stop; None where it is none. It stays where it is.
-    pub fn stop_here(&self) -> Result<Option<Look>, NoMemory>
-        ensures ahead { IfOk result (λ found. IfSome found (λ look. SeesAhead self.now (Some look))) }
+    pub fn stop_here(&mut self) -> Result<Option<Look>, NoMemory>
+        ensures ahead { IfOk result (λ found. IfSome found (λ look. SeesAhead self.old (Some look))) }
         ensures stop { IfOk result (λ found.
-            Decides (is_some found) (IsStop self.now.stops self.now.boot self.now.events self.now.position)) }
+            Decides (is_some found) (IsStop self.old.stops self.old.boot self.old.events self.old.position)) }
+        ensures stays { self.new ≡ self.old }
     {
         let Some(look) = self.look()? else {
             return Ok(None);
@@ -252,6 +278,7 @@ impl Debugger {
         if self.stops.meet(&self.shown.board, &look) {
             return Ok(Some(look));
         }
+        self.keep(look);
         Ok(None)
     }
 
@@ -306,14 +333,16 @@ impl Debugger {
         ensures moved { IfOk result (λ found. self.new ≡ went self.old found) }
         ensures err { OnErr result (self.new ≡ self.old) }
     {
+        let mut playback = board_here(&self.journal, &mut self.spare, &self.shown)?;
         let found = next_stop(
             &self.boot,
             &self.journal,
             &self.stops,
             &mut self.snapshots,
-            &self.shown,
+            &mut playback,
             progress,
         )?;
+        self.spare = Some(playback);
         if let Some(position) = found {
             self.show_at(position, progress)?;
         }
@@ -342,16 +371,78 @@ impl Debugger {
         ensures moved { IfOk result (λ found. self.new ≡ went self.old found) }
         ensures err { OnErr result (self.new ≡ self.old) }
     {
+        let mut playback = any_board(&mut self.spare, &self.shown)?;
         let found = stop_before(
             &self.boot,
             &self.journal,
             &self.stops,
             &self.snapshots,
-            &self.shown,
+            &mut playback,
+            0,
+            self.shown.at,
             progress,
         )?;
+        self.spare = Some(playback);
         if let Some(position) = found {
             self.show_at(position, progress)?;
+        }
+        Ok(found)
+    }
+
+    /// Goes to the first stop from its position on, before another position, and answers that; where there is none, it
+    /// goes to this other one. An `Err` leaves it where it is.
+    pub fn seek(&mut self, end: u64) -> Result<Option<u64>, NoMemory>
+        requires on { self.old.position ≤ end }
+        requires within { end ≤ length self.old.events }
+        ensures least { IfOk result
+            (IsLeast (IsStop self.old.stops self.old.boot self.old.events) self.old.position end) }
+        ensures moved { IfOk result (λ found. self.new ≡ sought self.old end found) }
+        ensures err { OnErr result (self.new ≡ self.old) }
+    {
+        let mut playback = board_here(&self.journal, &mut self.spare, &self.shown)?;
+        let found = stop_from(
+            &self.boot,
+            &self.journal,
+            &self.stops,
+            &mut self.snapshots,
+            &mut playback,
+            end,
+            &mut Quiet,
+        )?;
+        match found {
+            Some(position) => {
+                self.spare = Some(playback);
+                self.show_at(position, &mut Quiet)?;
+            }
+            None => self.spare = Some(mem::replace(&mut self.shown, playback)),
+        }
+        Ok(found)
+    }
+
+    /// Goes back to the last stop before its position, from another position on, and answers that; where there is none,
+    /// it goes to this other one. An `Err` leaves it where it is.
+    pub fn seek_back(&mut self, begin: u64) -> Result<Option<u64>, NoMemory>
+        requires back { begin ≤ self.old.position }
+        ensures greatest { IfOk result
+            (IsGreatest (IsStop self.old.stops self.old.boot self.old.events) begin self.old.position) }
+        ensures moved { IfOk result (λ found. self.new ≡ sought self.old begin found) }
+        ensures err { OnErr result (self.new ≡ self.old) }
+    {
+        let mut playback = any_board(&mut self.spare, &self.shown)?;
+        let found = stop_before(
+            &self.boot,
+            &self.journal,
+            &self.stops,
+            &self.snapshots,
+            &mut playback,
+            begin,
+            self.shown.at,
+            &mut Quiet,
+        )?;
+        self.spare = Some(playback);
+        match found {
+            Some(position) => self.show_at(position, &mut Quiet)?,
+            None => self.show_at(begin, &mut Quiet)?,
         }
         Ok(found)
     }

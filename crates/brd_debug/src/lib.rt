@@ -11,6 +11,7 @@ mod marks;
 mod playback;
 mod search;
 mod snapshots;
+mod spare;
 mod stops;
 mod touching;
 

@@ -1,5 +1,7 @@
 //! What the event of a position does.
 
+ghost use Rattle.std.specs.Prelude.{◌≡◌};
+
 use brd_board::{Board, Event, Report};
 
 /// An event that comes next, and what it does.
@@ -32,5 +34,23 @@ impl Drop for Look {
             touches: _,
             board: _,
         } = self;
+    }
+}
+
+impl Look {
+    /// The board after it.
+    pub(crate) fn into_board(self) -> Board
+        ensures { result ≡ self.board }
+    {
+        let Look {
+            event: _,
+            report: _,
+            stepped: _,
+            breaks: _,
+            faults: _,
+            touches: _,
+            board,
+        } = self;
+        board
     }
 }

@@ -1,6 +1,6 @@
 //! Ways through a journal: to a position, to the next stop, to the one before.
 
-ghost use Rattle.std.specs.Prelude.{◌≡◌, ◌+◌, ◌-◌, ◌<◌, ◌≤◌, List as ListOf, length, IfOk, OnOk, OnErr};
+ghost use Rattle.std.specs.Prelude.{◌≡◌, ◌+◌, ◌-◌, ◌<◌, ◌≤◌, List as ListOf, length, IfNone, IfOk, OnOk, OnErr};
 ghost use Rattle.brd_board.specs.declared.event.Event.{Event as EventOf};
 ghost use Rattle.brd_board.specs.Snapshot.{Fits};
 ghost use Rattle.brd_journal.specs.Playing.{IsPlayed};
@@ -123,41 +123,9 @@ pub(crate) fn go_back(
     Ok(())
 }
 
-/// The first stop after the position of the board that is shown. It takes snapshots on its way, and tells how far it
-/// is.
+/// The first stop after the position of a board, which it lets play on, to wherever the search ends. It takes snapshots on
+/// its way, and tells how far it is.
 pub(crate) fn next_stop<P: Progress>(
-    boot: &Board,
-    journal: &Journal,
-    stops: &Stops,
-    snapshots: &mut Snapshots,
-    shown: &Playback,
-    progress: &mut P,
-) -> Result<Option<u64>, NoMemory>
-    requires shown { IsPlayed boot.now journal.now.events shown.now }
-    requires kept { AreKept boot.now journal.now.events snapshots.old.kept }
-    ensures least { IfOk result
-        (IsLeast (IsStop stops.now boot.now journal.now.events) (shown.now.at + 1) (length journal.now.events)) }
-    ensures kept { AreKept boot.now journal.now.events snapshots.new.kept }
-{
-    let len = journal.len();
-    if shown.at == len {
-        return Ok(None);
-    }
-    let mut playback = shown.try_copy()?;
-    play_on(
-        boot,
-        journal,
-        snapshots,
-        &mut playback,
-        shown.at + 1,
-        progress,
-    )?;
-    stop_from(boot, journal, stops, snapshots, &mut playback, progress)
-}
-
-/// The first stop from the position of a board on. It lets the board play on, to wherever the search ends. It takes
-/// snapshots on its way, and tells at each how far it is.
-fn stop_from<P: Progress>(
     boot: &Board,
     journal: &Journal,
     stops: &Stops,
@@ -168,7 +136,37 @@ fn stop_from<P: Progress>(
     requires played { IsPlayed boot.now journal.now.events playback.old }
     requires kept { AreKept boot.now journal.now.events snapshots.old.kept }
     ensures least { IfOk result
-        (IsLeast (IsStop stops.now boot.now journal.now.events) playback.old.at (length journal.now.events)) }
+        (IsLeast (IsStop stops.now boot.now journal.now.events) (playback.old.at + 1) (length journal.now.events)) }
+    ensures played { IsPlayed boot.now journal.now.events playback.new }
+    ensures kept { AreKept boot.now journal.now.events snapshots.new.kept }
+{
+    let len = journal.len();
+    if playback.at == len {
+        return Ok(None);
+    }
+    let next = playback.at + 1;
+    play_on(boot, journal, snapshots, playback, next, progress)?;
+    stop_from(boot, journal, stops, snapshots, playback, len, progress)
+}
+
+/// The first stop from the position of a board on, before another position. It lets the board play on, to wherever the
+/// search ends: to that position, where there is none. It takes snapshots on its way, and tells at each how far it is.
+pub(crate) fn stop_from<P: Progress>(
+    boot: &Board,
+    journal: &Journal,
+    stops: &Stops,
+    snapshots: &mut Snapshots,
+    playback: &mut Playback,
+    to: u64,
+    progress: &mut P,
+) -> Result<Option<u64>, NoMemory>
+    requires played { IsPlayed boot.now journal.now.events playback.old }
+    requires kept { AreKept boot.now journal.now.events snapshots.old.kept }
+    requires on { playback.old.at ≤ to }
+    requires within { to ≤ length journal.now.events }
+    ensures least { IfOk result (IsLeast (IsStop stops.now boot.now journal.now.events) playback.old.at to) }
+    ensures played { IsPlayed boot.now journal.now.events playback.new }
+    ensures at { IfOk result (λ found. IfNone found (playback.new.at ≡ to)) }
     ensures kept { AreKept boot.now journal.now.events snapshots.new.kept }
     ensures noted { OnOk result
         (IsNoted boot.now journal.now.events (plan_of snapshots.old) playback.old.at (playback.new.at - playback.old.at)
@@ -176,45 +174,73 @@ fn stop_from<P: Progress>(
 {
     let len = journal.len();
     let from = playback.at;
-    while playback.at < len {
+    while playback.at < to {
         snapshots.note(boot, playback)?;
-        let end = snapshots.next(playback.at).min(len);
-        let found = first_stop(playback, journal, stops, end, len);
+        let end = snapshots.next(playback.at).min(to);
+        let found = first_stop(playback, journal, stops, end, to);
         if found.is_some() {
             return Ok(found);
         }
-        progress.show(playback.at.saturating_sub(from), len.saturating_sub(from));
+        progress.show(playback.at.saturating_sub(from), to.saturating_sub(from));
     }
     Ok(None)
 }
 
-/// The last stop before the position of the board that is shown. It looks from one snapshot to the next, and then from
-/// the one before that, and tells at each how far it is.
+/// The last stop from a position on, before another one. It looks from one snapshot to the next, and then from the one
+/// before that, by a board that it lets go back, and tells at each how far it is.
 pub(crate) fn stop_before<P: Progress>(
     boot: &Board,
     journal: &Journal,
     stops: &Stops,
     snapshots: &Snapshots,
-    shown: &Playback,
+    playback: &mut Playback,
+    begin: u64,
+    end: u64,
     progress: &mut P,
 ) -> Result<Option<u64>, NoMemory>
-    requires shown { IsPlayed boot.now journal.now.events shown.now }
+    requires played { IsPlayed boot.now journal.now.events playback.old }
     requires kept { AreKept boot.now journal.now.events snapshots.now.kept }
-    ensures { IfOk result (IsGreatest (IsStop stops.now boot.now journal.now.events) 0 shown.now.at) }
+    requires within { end ≤ length journal.now.events }
+    ensures greatest { IfOk result (IsGreatest (IsStop stops.now boot.now journal.now.events) begin end) }
+    ensures played { IsPlayed boot.now journal.now.events playback.new }
 {
-    let mut to = shown.at;
-    let mut playback = shown.try_copy()?;
-    while to > 0 {
-        put_back(&mut playback, boot, snapshots, to - 1)?;
+    let mut to = end;
+    while to > begin {
+        put_between(playback, boot, journal, snapshots, begin, to - 1)?;
         let from = playback.at;
-        let found = last_stop(&mut playback, journal, stops, to);
+        let found = last_stop(playback, journal, stops, to);
         if found.is_some() {
             return Ok(found);
         }
         to = from;
-        progress.show(shown.at.saturating_sub(to), shown.at);
+        progress.show(end.saturating_sub(to), end);
     }
     Ok(None)
+}
+
+/// Goes back, in place, to the last snapshot at or before a position, or to the boot; and where that lies before another
+/// position, on to this one. An `Err` leaves it as it is.
+fn put_between(
+    playback: &mut Playback,
+    boot: &Board,
+    journal: &Journal,
+    snapshots: &Snapshots,
+    begin: u64,
+    to: u64,
+) -> Result<(), NoMemory>
+    requires played { IsPlayed boot.now journal.now.events playback.old }
+    requires kept { AreKept boot.now journal.now.events snapshots.now.kept }
+    requires between { begin ≤ to }
+    requires within { to ≤ length journal.now.events }
+    ensures at { OnOk result ((begin ≤ playback.new.at) × (playback.new.at ≤ to)) }
+    ensures played { IsPlayed boot.now journal.now.events playback.new }
+    ensures err { OnErr result (playback.new ≡ playback.old) }
+{
+    put_back(playback, boot, snapshots, to)?;
+    if playback.at < begin {
+        playback.play_to(journal, begin, begin);
+    }
+    Ok(())
 }
 
 /// A board to play on from to a position: that of the last snapshot at or before it, the boot, or the one that is

@@ -1,6 +1,7 @@
 mod ReadingLemmas
 mod AnswerLemmas
 mod MovingLemmas
+mod SeekingLemmas
 mod SizeLemmas
 mod PointLemmas
 mod MarkedLemmas

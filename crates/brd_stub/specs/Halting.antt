@@ -24,13 +24,14 @@ signal_of_code ExceptionCode.RI = 4
 signal_of_code ExceptionCode.Ov = 8
 signal_of_code ExceptionCode.Tr = 5
 
--- that of a reason: SIGTRAP where it is no exception
+-- that of a reason: SIGINT where it was asked to stop, and else SIGTRAP where it is no exception
 abbrev pub signal_of : Reason → ℕ
 signal_of (Reason.Exception code) = signal_of_code code
 signal_of Reason.Done = 5
 signal_of (Reason.Break kind) = 5
 signal_of (Reason.WatchedBreak kind) = 5
 signal_of (Reason.Watch kind address) = 5
+signal_of Reason.Interrupt = 2
 signal_of Reason.Begin = 5
 signal_of Reason.End = 5
 
@@ -51,6 +52,7 @@ reason_text (Reason.Break kind) = break_name kind
 reason_text (Reason.WatchedBreak kind) = break_name kind
 reason_text (Reason.Exception code) = []
 reason_text (Reason.Watch kind address) = watch_name kind ++ hex_of address ++ codes ";"
+reason_text Reason.Interrupt = []
 reason_text Reason.Begin = codes "replaylog:begin;"
 reason_text Reason.End = codes "replaylog:end;"
 
@@ -95,5 +97,6 @@ note_text (Reason.Break kind) b = []
 note_text (Reason.WatchedBreak kind) b = codes "The watch was met by the instruction at this break.\n"
 note_text (Reason.Exception code) b = []
 note_text (Reason.Watch kind address) b = []
+note_text Reason.Interrupt b = []
 note_text Reason.Begin b = []
 note_text Reason.End b = end_text b

@@ -6,12 +6,13 @@ use Rattle.brd_debug.specs.declared.stops.Stepper.{Stepper}
 use Rattle.brd_debug.specs.declared.stops.Only.{Only}
 use Rattle.brd_debug.specs.declared.look.Look.{Look}
 use Rattle.brd_debug.specs.Debugger.{DebuggerState, SeesAhead, shown}
-use Rattle.brd_debug.specs.Stops.{IsStop, IsLeast, IsGreatest}
+use Rattle.brd_debug.specs.Stops.{IsStop, IsLeast, IsGreatest, NoneFrom}
 use Rattle.brd_stub.specs.declared.points.Point.{Point}
 use Rattle.brd_stub.specs.declared.halt.Reason.{Reason}
 use Rattle.brd_stub.specs.declared.halt.Stop.{Stop}
 use Rattle.brd_stub.specs.declared.halt.Told.{Told}
 use Rattle.brd_stub.specs.declared.halt.Told.TheVariants as told
+use Rattle.brd_stub.specs.declared.seeking.Search.{Search}
 use Rattle.brd_stub.specs.declared.stepping.Stepped.{Stepped}
 use Rattle.brd_stub.specs.Points.{stops_for}
 use Rattle.brd_stub.specs.declared.threads.Thread.{Thread}
@@ -49,6 +50,30 @@ IsNext d found = IsLeast (IsStopOf d) (d.position + 1) (length d.events) found
 -- the last stop before a debugger's position
 abbrev pub IsLast : DebuggerState → Option ℕ → Type 0
 IsLast d found = IsGreatest (IsStopOf d) 0 d.position found
+
+-- Up to another position of the journal, after a debugger's or before it, there is no stop on its way. There a move may
+-- end that is asked to stop.
+pub record IsPassedOn (d : DebuggerState) (at : ℕ) : Type 0 where
+  pub on : d.position < at
+  pub within : at < length d.events
+  pub none : NoneFrom (IsStopOf d) (d.position + 1) at
+
+pub record IsPassedBack (d : DebuggerState) (at : ℕ) : Type 0 where
+  pub back : at < d.position
+  pub within : 0 < at
+  pub none : NoneFrom (IsStopOf d) at d.position
+
+-- What a search forward comes to: it goes to the first stop, or else to the end, or ends early.
+abbrev pub SearchesOn : DebuggerState → Search → DebuggerState → Type 0
+SearchesOn d (Search.Stop at) next = IsNext d (Some at) × (next ≡ moved_to d at)
+SearchesOn d Search.Nothing next = IsNext d None × (next ≡ moved_to d (length d.events))
+SearchesOn d Search.Early next = (at : ℕ) × IsPassedOn d at × (next ≡ moved_to d at)
+
+-- What a search backward comes to: it goes to the last stop, or else to the beginning, or ends early.
+abbrev pub SearchesBack : DebuggerState → Search → DebuggerState → Type 0
+SearchesBack d (Search.Stop at) next = IsLast d (Some at) × (next ≡ moved_to d at)
+SearchesBack d Search.Nothing next = IsLast d None × (next ≡ moved_to d 0)
+SearchesBack d Search.Early next = (at : ℕ) × IsPassedBack d at × (next ≡ moved_to d at)
 
 -- a move stops before the next event, of which this was told
 abbrev pub shows : Told → Look → Bool
@@ -121,10 +146,12 @@ pub record StopsHere (points : List Point) (last : Whose) (it : Told) (d : Debug
 abbrev pub PassesOn : Told → DebuggerState → Type 0
 PassesOn it d = IsStopOf d d.position → (look : Look) × SeesAhead d (Some look) × (stops it look ≡ false)
 
--- It ends at the first stop after its position; and where there is none, at the journal's end.
+-- It ends at the first stop after its position; where there is none, at the journal's end; and where it is asked to
+-- stop, at any position on its way that comes before.
 pub data GoesOn (points : List Point) (last : Whose) (d : DebuggerState) (e : Ended) : Type 0 where
   ahead : (found : ℕ) → IsNext d (Some found) → StandsAhead points last (moved_to d found) e → GoesOn points last d e
   end : IsNext d None → e ≡ stands_there last Reason.End (moved_to d (length d.events)) → GoesOn points last d e
+  early : (at : ℕ) → IsPassedOn d at → e ≡ stands_there last Reason.Interrupt (moved_to d at) → GoesOn points last d e
 
 -- A move forward ends at its position, where that is a stop of which something wasn't told; or else at the first stop
 -- after it.
@@ -157,11 +184,14 @@ pub record StandsBehind (points : List Point) (last : Whose) (d : DebuggerState)
   pub sees : SeesAhead d look
   pub stands : e ≡ stand_behind points last false look d
 
--- It ends at the last stop before its position; and where there is none, at the journal's beginning.
+-- It ends at the last stop before its position; where there is none, at the journal's beginning; and where it is asked
+-- to stop, at any position on its way that comes before.
 pub data EndsBehind (points : List Point) (last : Whose) (d : DebuggerState) (e : Ended) : Type 0 where
   back : (found : ℕ) → IsLast d (Some found) → StandsBehind points last (moved_to d found) e →
       EndsBehind points last d e
   none : IsLast d None → e ≡ stands_there last Reason.Begin (moved_to d 0) → EndsBehind points last d e
+  early : (at : ℕ) → IsPassedBack d at → e ≡ stands_there last Reason.Interrupt (moved_to d at) →
+      EndsBehind points last d e
 
 -- What a move back does that has come to a stop, the watch of which was told or not.
 pub record StopsBehind (points : List Point) (last : Whose) (is_told : Bool) (d : DebuggerState) (e : Ended) :
@@ -179,9 +209,12 @@ is_told_behind told.Break events = false
 is_told_behind told.Exception events = false
 is_told_behind told.Watch events = false
 
--- A move back ends at the last stop before its position; or, where that was told, at the one before that.
+-- A move back ends at the last stop before its position; or, where that was told, at the one before that; and where it
+-- is asked to stop, at any position on its way that comes before.
 pub data GoesBack (points : List Point) (last : Whose) (it : Told) (d : DebuggerState) (e : Ended) : Type 0 where
   back_to : (found : ℕ) → IsLast d (Some found) →
       StopsBehind points last (is_told_behind it (d.position - found)) (moved_to d found) e →
       GoesBack points last it d e
   to_begin : IsLast d None → e ≡ stands_there last Reason.Begin (moved_to d 0) → GoesBack points last it d e
+  early : (at : ℕ) → IsPassedBack d at → e ≡ stands_there last Reason.Interrupt (moved_to d at) →
+      GoesBack points last it d e

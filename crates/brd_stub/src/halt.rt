@@ -52,6 +52,8 @@ pub enum Reason {
     /// A watched byte changes, or is read or written, as the point's kind says: forward by the next event, backward by
     /// the last one. The point's address.
     Watch(PointKind, u32),
+    /// It was asked to stop.
+    Interrupt,
     /// The journal begins here.
     Begin,
     /// The journal ends here.
@@ -271,7 +273,7 @@ fn show_reason(out: &mut Vec<u8>, reason: Reason) -> Result<(), NoMemory>
     ensures { OnOk result (out.new.items ≡ out.old.items ++ reason_text reason) }
 {
     let text: &[u8] = match reason {
-        Reason::Done | Reason::Exception(_) => b"",
+        Reason::Done | Reason::Exception(_) | Reason::Interrupt => b"",
         Reason::Break(kind) => break_name(kind),
         Reason::WatchedBreak(kind) => break_name(kind),
         Reason::Begin => b"replaylog:begin;",
@@ -322,6 +324,7 @@ fn signal_of(reason: Reason) -> u8
 {
     match reason {
         Reason::Exception(code) => signal_of_code(code),
+        Reason::Interrupt => 2,
         Reason::Done
         | Reason::Break(_)
         | Reason::WatchedBreak(_)

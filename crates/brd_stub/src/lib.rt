@@ -13,6 +13,7 @@ mod monitor;
 mod moves;
 mod points;
 mod registers;
+mod seeking;
 mod selection;
 mod session;
 mod stepping;

@@ -1,9 +1,8 @@
 //! Moves: on to the next stop, and back to the last one.
 
-ghost use Rattle.std.specs.Prelude.{◌≡◌, ◌≤◌, length, Some, OnOk, IfOk, IfSome, IfNone};
-ghost use Rattle.brd_stub.specs.declared.halt.Reason.TheVariants as reason;
+ghost use Rattle.std.specs.Prelude.{◌≡◌, Some, OnOk, IfOk, IfSome, IfNone};
+ghost use Rattle.brd_debug.specs.Debugger.{SeesAhead};
 ghost use Rattle.brd_stub.specs.Moving.{
-  moved_to,
   after_next,
   step_done,
   stands_there,
@@ -29,6 +28,7 @@ use crate::halt::{
     told_ahead, watched,
 };
 use crate::points::Point;
+use crate::seeking::{Search, search_back, search_on, show_at};
 use crate::threads::{Whose, standing_thread, stepped_thread};
 use brd_base::NoMemory;
 use brd_debug::{Debugger, Look};
@@ -45,7 +45,8 @@ pub struct Origin<'a> {
     pub told: Told,
 }
 
-/// Goes on to the first stop: at its position, of what wasn't told yet; else after it; else to the end.
+/// Goes on to the first stop: at its position, of what wasn't told yet; else after it; else to the end. Where it is asked
+/// to end, it stops before.
 pub fn forward<P: Progress>(
     debugger: &mut Debugger,
     origin: Origin<'_>,
@@ -73,13 +74,14 @@ fn stop_here(debugger: &mut Debugger, origin: Origin<'_>) -> Result<Option<Stop>
         return Ok(None);
     };
     if !stops(origin.told, &look) {
+        debugger.keep(look);
         return Ok(None);
     }
-    let stop = stand(debugger, origin, &look)?;
+    let stop = stand(debugger, origin, look)?;
     Ok(Some(stop))
 }
 
-/// Goes on to the first stop after its position, else to the end.
+/// Goes on to the first stop after its position, else to the end; or as far as it is when it is asked to end.
 fn search_ahead<P: Progress>(
     debugger: &mut Debugger,
     origin: Origin<'_>,
@@ -89,25 +91,11 @@ fn search_ahead<P: Progress>(
         GoesOn origin.entry.points.now origin.entry.last debugger.old
         (record { debugger = debugger.new; stop = stop })) }
 {
-    match debugger.next_stop_telling(progress)? {
-        None => end(debugger, origin, progress),
-        Some(_) => stop_ahead(debugger, origin),
+    match search_on(debugger, progress)? {
+        Search::Stop(_) => stop_ahead(debugger, origin),
+        Search::Nothing => Ok(stop_there(debugger, origin, Reason::End)),
+        Search::Early => Ok(stop_there(debugger, origin, Reason::Interrupt)),
     }
-}
-
-/// Goes to the end.
-fn end<P: Progress>(
-    debugger: &mut Debugger,
-    origin: Origin<'_>,
-    progress: &mut P,
-) -> Result<Stop, NoMemory>
-    ensures { IfOk result (λ stop.
-        record { debugger = debugger.new; stop = stop }
-        ≡ stands_there origin.entry.last reason.End (moved_to debugger.old (length debugger.old.events))) }
-{
-    let len = debugger.len();
-    show_at(debugger, len, progress)?;
-    Ok(stop_there(debugger, origin, Reason::End))
 }
 
 /// Stops at its position, to which it has come, so that nothing was told of it.
@@ -121,20 +109,24 @@ fn stop_ahead(debugger: &mut Debugger, origin: Origin<'_>) -> Result<Stop, NoMem
         ..origin
     };
     match debugger.look()? {
-        Some(look) => stand(debugger, untold, &look),
+        Some(look) => stand(debugger, untold, look),
         None => Ok(stop_there(debugger, untold, Reason::Done)),
     }
 }
 
 /// Stops before the event of its position, or after it where that is nothing else than a stop of who is stepped.
-fn stand(debugger: &mut Debugger, origin: Origin<'_>, look: &Look) -> Result<Stop, NoMemory>
+fn stand(debugger: &mut Debugger, origin: Origin<'_>, look: Look) -> Result<Stop, NoMemory>
+    requires { SeesAhead debugger.old (Some look) }
     ensures { IfOk result (λ stop.
         record { debugger = debugger.new; stop = stop }
-        ≡ stand origin.entry.points.now origin.entry.last origin.entry.told (Some look.now) debugger.old) }
+        ≡ stand origin.entry.points.now origin.entry.last origin.entry.told (Some look) debugger.old) }
 {
-    if shows(origin.told, look) {
-        return Ok(stop_before(debugger, origin, look, false));
+    if shows(origin.told, &look) {
+        let stop = stop_before(debugger, origin, &look, false);
+        debugger.keep(look);
+        return Ok(stop);
     }
+    debugger.keep(look);
     show_next(debugger)?;
     Ok(step_done(debugger, origin))
 }
@@ -203,7 +195,8 @@ fn stop_there(debugger: &Debugger, origin: Origin<'_>, reason: Reason) -> Stop
     }
 }
 
-/// Goes back to the last stop, but for what was told of the last event, else to the beginning.
+/// Goes back to the last stop, but for what was told of the last event, else to the beginning. Where it is asked to end,
+/// it stops before.
 pub fn backward<P: Progress>(
     debugger: &mut Debugger,
     origin: Origin<'_>,
@@ -214,12 +207,13 @@ pub fn backward<P: Progress>(
         (record { debugger = debugger.new; stop = stop })) }
 {
     let from = debugger.position();
-    match debugger.last_stop_telling(progress)? {
-        None => begin(debugger, origin, progress),
-        Some(found) => {
+    match search_back(debugger, progress)? {
+        Search::Stop(found) => {
             let is_told = is_told_behind(origin.told, from - found);
             stop_or_back(debugger, origin, is_told, progress)
         }
+        Search::Nothing => Ok(stop_there(debugger, origin, Reason::Begin)),
+        Search::Early => Ok(stop_there(debugger, origin, Reason::Interrupt)),
     }
 }
 
@@ -239,14 +233,16 @@ fn stop_or_back<P: Progress>(
         None => Ok(stop_there(debugger, origin, Reason::Done)),
         Some(look) => {
             if passes(is_told, &look) {
+                debugger.keep(look);
                 return search_behind(debugger, origin, progress);
             }
-            stand_behind(debugger, origin, is_told, &look)
+            stand_behind(debugger, origin, is_told, look)
         }
     }
 }
 
-/// Goes back to the last stop, of which nothing was told, else to the beginning.
+/// Goes back to the last stop, of which nothing was told, else to the beginning; or as far as it is when it is asked to
+/// end.
 fn search_behind<P: Progress>(
     debugger: &mut Debugger,
     origin: Origin<'_>,
@@ -256,9 +252,10 @@ fn search_behind<P: Progress>(
         EndsBehind origin.entry.points.now origin.entry.last debugger.old
         (record { debugger = debugger.new; stop = stop })) }
 {
-    match debugger.last_stop_telling(progress)? {
-        None => begin(debugger, origin, progress),
-        Some(_) => stop_behind(debugger, origin),
+    match search_back(debugger, progress)? {
+        Search::Stop(_) => stop_behind(debugger, origin),
+        Search::Nothing => Ok(stop_there(debugger, origin, Reason::Begin)),
+        Search::Early => Ok(stop_there(debugger, origin, Reason::Interrupt)),
     }
 }
 
@@ -270,22 +267,8 @@ fn stop_behind(debugger: &mut Debugger, origin: Origin<'_>) -> Result<Stop, NoMe
 {
     match debugger.look()? {
         None => Ok(stop_there(debugger, origin, Reason::Done)),
-        Some(look) => stand_behind(debugger, origin, false, &look),
+        Some(look) => stand_behind(debugger, origin, false, look),
     }
-}
-
-/// Goes to the beginning.
-fn begin<P: Progress>(
-    debugger: &mut Debugger,
-    origin: Origin<'_>,
-    progress: &mut P,
-) -> Result<Stop, NoMemory>
-    ensures { IfOk result (λ stop.
-        record { debugger = debugger.new; stop = stop }
-        ≡ stands_there origin.entry.last reason.Begin (moved_to debugger.old 0)) }
-{
-    show_at(debugger, 0, progress)?;
-    Ok(stop_there(debugger, origin, Reason::Begin))
 }
 
 /// Stops before the event of its position, or after it where a watch is told.
@@ -293,11 +276,12 @@ fn stand_behind(
     debugger: &mut Debugger,
     origin: Origin<'_>,
     is_told: bool,
-    look: &Look,
+    look: Look,
 ) -> Result<Stop, NoMemory>
+    requires { SeesAhead debugger.old (Some look) }
     ensures { IfOk result (λ stop.
         record { debugger = debugger.new; stop = stop }
-        ≡ stand_behind origin.entry.points.now origin.entry.last is_told (Some look.now) debugger.old) }
+        ≡ stand_behind origin.entry.points.now origin.entry.last is_told (Some look) debugger.old) }
 {
     if look.touches && !is_told {
         return stop_after(debugger, origin, look);
@@ -307,21 +291,26 @@ fn stand_behind(
             told: Told::Nothing,
             ..origin
         };
-        return Ok(stop_before(debugger, untold, look, is_told));
+        let stop = stop_before(debugger, untold, &look, is_told);
+        debugger.keep(look);
+        return Ok(stop);
     }
+    debugger.keep(look);
     Ok(step_done(debugger, origin))
 }
 
 /// Stops after the event of its position, the watch of which is told.
-fn stop_after(debugger: &mut Debugger, origin: Origin<'_>, look: &Look) -> Result<Stop, NoMemory>
+fn stop_after(debugger: &mut Debugger, origin: Origin<'_>, look: Look) -> Result<Stop, NoMemory>
+    requires { SeesAhead debugger.old (Some look) }
     ensures { IfOk result (λ stop.
         record { debugger = debugger.new; stop = stop }
-        ≡ stands_behind origin.entry.points.now origin.entry.last look.now debugger.old) }
+        ≡ stands_behind origin.entry.points.now origin.entry.last look debugger.old) }
 {
     let halt = Halt {
         thread: thread_of(origin.last, debugger.show(), look.event),
-        reason: watched(origin.points, debugger.show(), look),
+        reason: watched(origin.points, debugger.show(), &look),
     };
+    debugger.keep(look);
     show_next(debugger)?;
     Ok(Stop {
         halt,
@@ -335,23 +324,5 @@ fn show_next(debugger: &mut Debugger) -> Result<(), NoMemory>
 {
     let position = debugger.position();
     let len = debugger.len();
-    match debugger.goto((position + 1).min(len)) {
-        Ok(()) => Ok(()),
-        Err(_) => Err(NoMemory),
-    }
-}
-
-/// Goes to a position.
-fn show_at<P: Progress>(
-    debugger: &mut Debugger,
-    position: u64,
-    progress: &mut P,
-) -> Result<(), NoMemory>
-    requires { position ≤ length debugger.old.events }
-    ensures { OnOk result (debugger.new ≡ moved_to debugger.old position) }
-{
-    match debugger.goto_telling(position, progress) {
-        Ok(()) => Ok(()),
-        Err(_) => Err(NoMemory),
-    }
+    show_at(debugger, (position + 1).min(len))
 }

@@ -558,6 +558,7 @@ fn note_text(board: &Board, reason: Reason) -> &'static [u8]
         | Reason::Break(_)
         | Reason::Exception(_)
         | Reason::Watch(_, _)
+        | Reason::Interrupt
         | Reason::Begin => b"",
     }
 }

@@ -1,58 +1,51 @@
-use Rattle.std.proofs.Common.{ℕ, [], sym, subst, true≢false, arith}
-use Rattle.std.specs.Prelude.{Option}
+use Rattle.std.proofs.Common.{[]}
 use Rattle.brd_command.specs.Serving.HasServed.{nothing_yet}
-use Rattle.brd_running.specs.Lines.{CountsByte}
-use Rattle.brd_command.proofs.ServerLemmas.{cut_off, front_served, last_served, memory_ran_out, more_served, stopped}
+use Rattle.brd_command.proofs.ServerLemmas.{cut_off, front_served, last_served, memory_ran_out, more_served, read_too_often, stopped}
 use Rattle.brd_report.proofs.OutputLemmas as output
 use Rattle.brd_command.proofs.gdb_command.serve_all.Goals as goal
 
-pub loop-byte-init : goal.loop-byte-init
-loop-byte-init g c = record {
-  few = omega arith;
-  ended = λ e. absurd (true≢false (sym e));
-  left = λ text is. (text, [], is, omega arith, nothing_yet, output.nothing_yet (g.W.Write.contents c.args.writer.now));
-}
+pub loop-init : goal.loop-init
+loop-init g c = λ text is. (text, [], is, nothing_yet, output.nothing_yet (g.W.Write.contents c.args.writer.now))
 
 pub returns-in-Ok-None : goal.returns-in-Ok-None
 returns-in-Ok-None g c =
-    cut_off c.args.server.now c.loop-byte.server _ c.loop-byte.taken _ _
-    (g.R.Read.remaining c.args.input.now) c.cut_off.result c.cut_off.ensures c.loop-byte.invariant.left
+    cut_off c.args.server.now c.loop.server _ _ _
+    (g.R.Read.remaining c.args.input.now) c.cut_off.result c.cut_off.ensures c.loop.invariant
 
 pub returns-in-Err : goal.returns-in-Err
 returns-in-Err g c =
-    stopped c.args.server.now c.loop-byte.server _ c.loop-byte.taken _ _
-    (g.R.Read.remaining c.args.input.now) c.in-Err.fault
-    c.in-Err.ensures.takes c.loop-byte.invariant.left
+    stopped c.args.server.now c.loop.server _ _ _
+    (g.R.Read.remaining c.args.input.now) c.in-Err.fault c.in-Err.ensures c.loop.invariant
 
 pub returns-in_err-served : goal.returns-in_err-served
 returns-in_err-served g c =
-    memory_ran_out c.args.server.now c.loop-byte.server _ c.loop-byte.taken _ _
-    (g.R.Read.remaining c.args.input.now) c.from_residual.result _ c.from_residual.ensures.1 c.loop-byte.invariant.left
+    memory_ran_out c.args.server.now c.loop.server _ _ _
+    (g.R.Read.remaining c.args.input.now) c.from_residual.result _ c.from_residual.ensures.1 c.loop.invariant
 
 pub returns-in-Err-write_whole : goal.returns-in-Err-write_whole
 returns-in-Err-write_whole g c =
-    front_served c.args.server.now c.loop-byte.server _ _ c.loop-byte.taken c.next_byte.new.taken c.in-Ok-Some.field-0 _ _
-    c.in-Ok-Some.ensures.takes c.in-Ok-Some.ensures.counts c.in-Ok-Some.byte c.in-Ok-Some.field-0-is
+    front_served c.args.server.now c.loop.server _ _ c.in-Ok-Some.field-0 _ _
+    c.in-Ok-Some.ensures c.in-Ok-Some.byte c.in-Ok-Some.field-0-is
     c.in_ok-served.served.bytes.items c.in_ok-served.served.is_over c.serve.new.self c.in_ok-served.ensures _
     (g.R.Read.remaining c.args.input.now) (rw c.deref.ensures.value at c.in-Err-write_whole.ensures.front)
-    c.loop-byte.invariant.left
+    c.loop.invariant
 
 pub returns-then-served : goal.returns-then-served
 returns-then-served g c =
-    last_served c.args.server.now c.loop-byte.server _ _ c.loop-byte.taken c.next_byte.new.taken c.in-Ok-Some.field-0 _ _
-    c.in-Ok-Some.ensures.takes c.in-Ok-Some.ensures.counts c.in-Ok-Some.byte c.in-Ok-Some.field-0-is
+    last_served c.args.server.now c.loop.server _ _ c.in-Ok-Some.field-0 _ _
+    c.in-Ok-Some.ensures c.in-Ok-Some.byte c.in-Ok-Some.field-0-is
     c.in_ok-served.served.bytes.items c.in_ok-served.served.is_over c.serve.new.self c.in_ok-served.ensures _
     (g.R.Read.remaining c.args.input.now) c.if-served.true (rw c.deref.ensures.value at c.in-Ok.ensures.whole)
-    c.loop-byte.invariant.left
+    c.loop.invariant
 
-pub loop-byte-preserved : goal.loop-byte-preserved
-loop-byte-preserved g c =
-    let counts = subst (λ (f : Option ℕ). CountsByte c.loop-byte.taken f c.next_byte.new.taken) c.in-Ok-Some.field-0-is c.in-Ok-Some.ensures.counts in
-    record {
-      few = counts.1;
-      ended = c.next_byte.ensures.ended;
-      left = λ text is. more_served c.args.server.now c.loop-byte.server _ _ c.loop-byte.taken c.next_byte.new.taken c.in-Ok-Some.field-0 _ _
-          c.in-Ok-Some.ensures.takes c.in-Ok-Some.ensures.counts c.in-Ok-Some.byte c.in-Ok-Some.field-0-is
-          c.in_ok-served.served.bytes.items c.in_ok-served.served.is_over c.serve.new.self c.in_ok-served.ensures _
-          text c.if-served.false (rw c.deref.ensures.value at c.in-Ok.ensures.whole) (c.loop-byte.invariant.left text is);
-    }
+pub loop-preserved : goal.loop-preserved
+loop-preserved g c = λ text is.
+    more_served c.args.server.now c.loop.server _ _ c.in-Ok-Some.field-0 _ _
+    c.in-Ok-Some.ensures c.in-Ok-Some.byte c.in-Ok-Some.field-0-is
+    c.in_ok-served.served.bytes.items c.in_ok-served.served.is_over c.serve.new.self c.in_ok-served.ensures _
+    text c.if-served.false (rw c.deref.ensures.value at c.in-Ok.ensures.whole) (c.loop.invariant text is)
+
+pub returns : goal.returns
+returns g c =
+    read_too_often c.args.server.now c.loop.server _ _ _
+    (g.R.Read.remaining c.args.input.now) c.loop.invariant

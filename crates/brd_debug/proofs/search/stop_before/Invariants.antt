@@ -7,8 +7,8 @@ use Rattle.brd_debug.proofs.search.stop_before.Given as goal
 abbrev pub invariant-loop-to : goal.invariant-loop-to
 invariant-loop-to g l = record {
   played : IsPlayed l.boot l.journal.events l.playback;
-  below : l.to ≤ l.shown.at;
-  none : NoneFrom (IsStop l.stops l.boot l.journal.events) l.to l.shown.at;
+  below : l.to ≤ l.end;
+  none : NoneFrom (IsStop l.stops l.boot l.journal.events) l.to l.end;
 }
 
 abbrev pub decreases-loop-to : goal.decreases-loop-to

@@ -1,8 +1,8 @@
-use Rattle.std.proofs.Common.{◌<◌, ◌≤◌, length, sym, ◌∙◌, arith}
+use Rattle.std.proofs.Common.{◌≡◌, ◌<◌, ◌≤◌, sym, ◌∙◌, arith}
 use Rattle.brd_debug.specs.Kept.{plan_of}
 use Rattle.brd_debug.specs.Stops.{IsStop}
 use Rattle.brd_debug.proofs.KeptLemmas.{size-played, order-played}
-use Rattle.brd_debug.proofs.SearchLemmas.{found-least, found-more, none-of, none-least, none-both}
+use Rattle.brd_debug.proofs.SearchLemmas.{found-least, found-more, found-some, none-of, none-least, none-both}
 use Rattle.brd_debug.proofs.NotedLemmas.{noted-on, noted-both, noted-nowhere}
 use Rattle.brd_debug.proofs.search.stop_from.Goals as goal
 
@@ -15,6 +15,7 @@ note-requires-clause-orders g c = order-played c.args.boot.now c.args.journal.no
 pub loop-playback-init : goal.loop-playback-init
 loop-playback-init g c = record {
   from = omega arith;
+  below = c.requires.on;
   none = λ m above below stop. omega (arith, above, below);
   played = c.requires.played;
   kept = c.requires.kept;
@@ -24,8 +25,8 @@ loop-playback-init g c = record {
 pub returns-then-is_some-clause-least : goal.returns-then-is_some-clause-least
 returns-then-is_some-clause-least g c =
     found-least (IsStop c.args.stops.now c.args.boot.now c.args.journal.now.events) c.args.playback.now.at c.loop-playback.playback.at
-    c.first_stop-found.new.playback.at (length c.args.journal.now.events) c.first_stop-found.result (sym c.is_some.ensures ∙ c.if-is_some.true)
-    c.loop-playback.invariant.from (omega (arith, c.first_stop-found.ensures.at.1, c.len-len.ensures.len)) c.loop-playback.invariant.none
+    c.first_stop-found.new.playback.at c.args.to c.first_stop-found.result (sym c.is_some.ensures ∙ c.if-is_some.true)
+    c.loop-playback.invariant.from c.first_stop-found.ensures.at.1 c.loop-playback.invariant.none
     (c.first_stop-found.ensures.least c.args.boot.now c.loop-playback.invariant.played)
 
 pub returns-then-is_some-clause-noted : goal.returns-then-is_some-clause-noted
@@ -48,6 +49,7 @@ loop-playback-preserved g c =
     omega (arith, far, c.min-end.ensures, c.next.ensures.after, c.loop-playback-test.true) in
     record {
       from = omega (arith, more, c.loop-playback.invariant.from);
+      below = c.first_stop-found.ensures.at.1;
       none = none-both (IsStop c.args.stops.now c.args.boot.now c.args.journal.now.events) c.args.playback.now.at c.loop-playback.playback.at
           c.first_stop-found.new.playback.at c.loop-playback.invariant.none
           (none-least (IsStop c.args.stops.now c.args.boot.now c.args.journal.now.events) c.loop-playback.playback.at c.first_stop-found.new.playback.at
@@ -65,11 +67,21 @@ loop-playback-preserved g c =
 
 pub returns-clause-least : goal.returns-clause-least
 returns-clause-least g c = λ m above below stop.
-    c.loop-playback.invariant.none m above (omega (arith, below, c.loop-playback-test.false, c.len-len.ensures.len)) stop
+    c.loop-playback.invariant.none m above (omega (arith, below, c.loop-playback-test.false)) stop
+
+pub returns-clause-at : goal.returns-clause-at
+returns-clause-at g c = omega (arith, c.loop-playback-test.false, c.loop-playback.invariant.below)
 
 pub returns-in_err-note-clause-kept : goal.returns-in_err-note-clause-kept
 returns-in_err-note-clause-kept g c =
     c.in_err-note.ensures.kept c.args.journal.now.events c.loop-playback.invariant.played c.loop-playback.invariant.kept
+
+pub returns-then-is_some-clause-at : goal.returns-then-is_some-clause-at
+returns-then-is_some-clause-at g c =
+    found-some (c.first_stop-found.new.playback.at ≡ c.args.to) c.first_stop-found.result (sym c.is_some.ensures ∙ c.if-is_some.true)
+
+pub returns-then-is_some-clause-played : goal.returns-then-is_some-clause-played
+returns-then-is_some-clause-played g c = c.first_stop-found.ensures.played c.args.boot.now c.loop-playback.invariant.played
 
 pub returns-then-is_some-clause-kept : goal.returns-then-is_some-clause-kept
 returns-then-is_some-clause-kept g c =

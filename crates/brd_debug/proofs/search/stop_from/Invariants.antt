@@ -1,5 +1,5 @@
 -- Up to where the board has played, there is no stop from where it began on, and the snapshots are noted.
-use Rattle.std.proofs.Common.{◌≤◌, ◌-◌, length}
+use Rattle.std.proofs.Common.{◌≤◌, ◌-◌}
 use Rattle.brd_journal.specs.Playing.{IsPlayed}
 use Rattle.brd_debug.specs.Kept.{AreKept, IsNoted, plan_of}
 use Rattle.brd_debug.specs.Stops.{IsStop, NoneFrom}
@@ -8,6 +8,7 @@ use Rattle.brd_debug.proofs.search.stop_from.Given as goal
 abbrev pub invariant-loop-playback : goal.invariant-loop-playback
 invariant-loop-playback g l = record {
   from : l.fn.playback.at ≤ l.playback.at;
+  below : l.playback.at ≤ l.to;
   none : NoneFrom (IsStop l.stops l.boot l.journal.events) l.fn.playback.at l.playback.at;
   played : IsPlayed l.boot l.journal.events l.playback;
   kept : AreKept l.boot l.journal.events l.snapshots.kept;
@@ -15,4 +16,4 @@ invariant-loop-playback g l = record {
 }
 
 abbrev pub decreases-loop-playback : goal.decreases-loop-playback
-decreases-loop-playback g l = length l.journal.events - l.playback.at
+decreases-loop-playback g l = l.to - l.playback.at

@@ -10,7 +10,7 @@ IsGreatestOf d found = IsGreatest (IsStop d.stops d.boot d.events) 0 d.position 
 
 pub returns-in_ok-show_at-clause-greatest : goal.returns-in_ok-show_at-clause-greatest
 returns-in_ok-show_at-clause-greatest g c =
-    subst (IsGreatestOf c.args.self.now) c.in-Some.is (subst (λ d. IsGreatestOf d c.in_ok-found.found) c.self.view_is c.in_ok-found.ensures)
+    subst (IsGreatestOf c.args.self.now) c.in-Some.is (subst (λ d. IsGreatestOf d c.in_ok-found.found) c.self.view_is c.in_ok-found.ensures.greatest)
 
 pub returns-in_default-clause-greatest : goal.returns-in_default-clause-greatest
-returns-in_default-clause-greatest g c = subst (λ d. IsGreatestOf d c.in_ok-found.found) c.self.view_is c.in_ok-found.ensures
+returns-in_default-clause-greatest g c = subst (λ d. IsGreatestOf d c.in_ok-found.found) c.self.view_is c.in_ok-found.ensures.greatest
