@@ -2,7 +2,7 @@
 use Rattle.std.proofs.Common.{◌≡◌, ℕ, ◌+◌, ◌<◌, ◌≤◌, length, subst, ap, ◌∙◌, arith}
 use Rattle.std.specs.Prelude.{Option, Some, None}
 use Rattle.brd_debug.specs.Debugger.{DebuggerState, sought}
-use Rattle.brd_debug.specs.Stops.{IsStop, NoneFrom, IsLeast, IsGreatest}
+use Rattle.brd_debug.specs.Stops.{NoneFrom, IsLeast, IsGreatest}
 use Rattle.brd_debug.proofs.SearchLemmas.{none-both, least-whole, greatest-whole}
 use Rattle.brd_stub.specs.declared.seeking.Search.{Search}
 use Rattle.brd_stub.specs.Moving.{moved_to, IsStopOf, SearchesOn, SearchesBack}
