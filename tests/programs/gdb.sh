@@ -1081,7 +1081,7 @@ printf '%s\n' 'first: addiu $t0, $t0, 1' ' b first' ' nop' > "$work/endless.s"
 cfg=$work/endless.cfg
 printf '%s\n' 'BOARD(1, 0x10000);' 'CRE_TSK(1, {TA_HLNG | TA_ACT, 0, first, 1, 1024, NULL});' > "$cfg"
 journal=$work/endless.journal
-printf '%s\n' 'board-journal 2 big' 'S 1 100000000000' > "$journal"
+{ echo board-journal 2 big; yes 'S 1 4294967295' | head -n 25; } > "$journal"
 python3 - "$board" "$elf" "$cfg" "$journal" > "$work/said" 2>&1 << 'END'
 import select, subprocess, sys, time
 
@@ -1132,6 +1132,12 @@ END
 printf '%s\n' OK 'T02thread:01; soon' 'T02thread:01; soon' 'T05thread:01;' 'T05thread:01;' OK 'T02thread:01; soon' \
     'at 0' OK 0 > "$work/wanted"
 verdict "gdb: the byte 3 ends a move" "$(cmp -s "$work/said" "$work/wanted" || cat "$work/said")"
+# More comes than another input may have: acknowledgments, and then GDB goes.
+printf '%s\n' 'board-journal 2 big' 'S 1 1' > "$work/short.journal"
+{ head -c 140000000 /dev/zero | tr '\0' '+'; printf '$k#6b'; } |
+    timeout 600 "$board" gdb "$elf" "$cfg" "$work/short.journal" > "$work/said" 2>&1
+status=${PIPESTATUS[1]}
+verdict "gdb: 140,000,000 bytes" "$([ "$status" = 0 ] || cat "$work/said")"
 cat > "$work/interrupted.py" << 'END'
 import os, signal, threading
 threading.Timer(2, os.kill, (os.getpid(), signal.SIGINT)).start()

@@ -1,7 +1,7 @@
 -- From an object file that `asm` wrote to what GDB reads of it.
 use Rattle.std.proofs.Common.{◌≡◌, ℕ, ◌+◌, ◌<◌, ◌≤◌, List, [], ◌∷◌, ◌++◌, length, Bool, true, false, refl, sym, ap}
 use Rattle.std.proofs.Common.{subst, ◌∙◌, inl, inr, arith, append_assoc}
-use Rattle.std.specs.Prelude.{◌⊎◌, ◌-◌, min, not, ◌&&◌, ◌||◌, nat_le, if◌then◌else◌, slice_index_or, Option, Some, None}
+use Rattle.std.specs.Prelude.{◌-◌, min, not, ◌&&◌, ◌||◌, nat_le, if◌then◌else◌, slice_index_or, Option, Some, None}
 use Rattle.std.specs.Prelude.{IfSome, Result, Ok, Err}
 use Rattle.std.specs.Io.KnownBytes.{Appends}
 use Rattle.std.proofs.lemmas.Bool.{leb-true, leb-false}
@@ -37,10 +37,10 @@ use Rattle.brd_stub.specs.Moving.{stands_before, stands_behind, step_done, stepp
 use Rattle.brd_stub.specs.Selecting.{stepping_of}
 use Rattle.brd_stub.specs.Stepping.{stepped_by, stepper_back}
 use Rattle.brd_stub.specs.Threads.{may_show}
-use Rattle.brd_stub.specs.Moving.EndsBehind.{back, none}
-use Rattle.brd_stub.specs.Moving.GoesBack.{back_to, to_begin}
+use Rattle.brd_stub.specs.Moving.EndsBehind.{back, none, early as ends_early}
+use Rattle.brd_stub.specs.Moving.GoesBack.{back_to, to_begin, early as back_early}
 use Rattle.brd_stub.specs.Moving.GoesForward.{here, on}
-use Rattle.brd_stub.specs.Moving.GoesOn.{ahead, end}
+use Rattle.brd_stub.specs.Moving.GoesOn.{ahead, end, early as goes_early}
 use Rattle.brd_stub.specs.declared.halt.Told.{Told}
 use Rattle.brd_stub.specs.declared.halt.Told.TheVariants as told
 use Rattle.brd_stub.specs.declared.points.Point.{Point}
@@ -117,6 +117,9 @@ goes_on points last d e within (ahead found least stands) =
     (stands_on points last told.Nothing stands.look (moved_to d found) (omega (arith, least.1))))
 goes_on points last d e within (end nothing is) =
     subst (λ (x : Ended). HasGoneOn d x.debugger) (sym is) (on_to d (length d.events) within (omega arith))
+goes_on points last d e within (goes_early at passed is) =
+    subst (λ (x : Ended). HasGoneOn d x.debugger) (sym is)
+    (on_to d at (omega (arith, passed.on)) (omega (arith, passed.within)))
 
 pub forward : (points : List Point) (last : Whose) (it : Told) (d : DebuggerState) (e : Ended)
     → d.position ≤ length d.events → GoesForward points last it d e → HasGoneOn d e.debugger
@@ -158,6 +161,8 @@ ends_behind points last d e within (back found greatest stands) =
     (stands_back points last false stands.look d found within greatest.1)
 ends_behind points last d e within (none nothing is) =
     subst (λ (x : Ended). HasGoneBack d x.debugger) (sym is) (back_at d 0 within (omega arith))
+ends_behind points last d e within (ends_early at passed is) =
+    subst (λ (x : Ended). HasGoneBack d x.debugger) (sym is) (back_at d at within (omega (arith, passed.back)))
 
 stops_behind : (points : List Point) (last : Whose) (is_told : Bool) (d : DebuggerState) (e : Ended) (n : ℕ)
     → d.position ≤ length d.events → n < d.position → (stops : StopsBehind points last is_told (moved_to d n) e)
@@ -176,6 +181,8 @@ backward points last it d e within (back_to found greatest stops) =
     (passes (is_told_behind it (d.position - found)) stops.look) refl
 backward points last it d e within (to_begin nothing is) =
     subst (λ (x : Ended). HasGoneBack d x.debugger) (sym is) (back_at d 0 within (omega arith))
+backward points last it d e within (back_early at passed is) =
+    subst (λ (x : Ended). HasGoneBack d x.debugger) (sym is) (back_at d at within (omega (arith, passed.back)))
 
 -- ---- what becomes of a session
 

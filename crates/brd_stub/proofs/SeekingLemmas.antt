@@ -2,7 +2,7 @@
 use Rattle.std.proofs.Common.{◌≡◌, ℕ, ◌+◌, ◌<◌, ◌≤◌, length, subst, ap, ◌∙◌, arith}
 use Rattle.std.specs.Prelude.{Option, Some, None}
 use Rattle.brd_debug.specs.Debugger.{DebuggerState, sought}
-use Rattle.brd_debug.specs.Stops.{IsStop, NoneFrom, IsLeast, IsGreatest}
+use Rattle.brd_debug.specs.Stops.{NoneFrom, IsLeast, IsGreatest}
 use Rattle.brd_debug.proofs.SearchLemmas.{none-both, least-whole, greatest-whole}
 use Rattle.brd_stub.specs.declared.seeking.Search.{Search}
 use Rattle.brd_stub.specs.Moving.{moved_to, IsStopOf, SearchesOn, SearchesBack}
@@ -57,3 +57,15 @@ back-none d mid at begin found is there none looks =
     let here : LooksBack (moved_to d at) begin None =
     subst (λ (m : DebuggerState). LooksBack m begin None) there (subst (LooksBack mid begin) is looks) in
     none-both (IsStopOf d) begin at d.position here none
+
+-- all was looked at
+
+pub nothing-on : (d mid : DebuggerState) (at : ℕ) → mid ≡ moved_to d at → at ≡ length d.events →
+    NoneFrom (IsStopOf d) (d.position + 1) at → SearchesOn d Search.Nothing mid
+nothing-on d mid at there is none =
+    (subst (λ n. NoneFrom (IsStopOf d) (d.position + 1) n) is none, there ∙ ap (λ n. moved_to d n) is)
+
+pub nothing-back : (d mid : DebuggerState) (at : ℕ) → mid ≡ moved_to d at → at ≡ 0 → NoneFrom (IsStopOf d) at d.position →
+    SearchesBack d Search.Nothing mid
+nothing-back d mid at there is none =
+    (subst (λ n. NoneFrom (IsStopOf d) n d.position) is none, there ∙ ap (λ n. moved_to d n) is)

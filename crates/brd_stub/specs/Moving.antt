@@ -1,7 +1,6 @@
 -- Where a move of a session ends.
-use Rattle.std.specs.Prelude.{◌≡◌, ℕ, ◌+◌, ◌-◌, ◌==◌, min, Bool, true, false, not, ◌&&◌, ◌||◌, if◌then◌else◌, List}
-use Rattle.std.specs.Prelude.{length}
-use Rattle.std.specs.Prelude.{Option, Some, None}
+use Rattle.std.specs.Prelude.{◌≡◌, ℕ, ◌+◌, ◌-◌, ◌<◌, ◌==◌, min, Bool, true, false, not, ◌&&◌, ◌||◌, if◌then◌else◌}
+use Rattle.std.specs.Prelude.{List, length, Option, Some, None}
 use Rattle.brd_debug.specs.declared.stops.Stepper.{Stepper}
 use Rattle.brd_debug.specs.declared.stops.Only.{Only}
 use Rattle.brd_debug.specs.declared.look.Look.{Look}

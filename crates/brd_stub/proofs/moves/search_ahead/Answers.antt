@@ -16,4 +16,4 @@ returns-in-Nothing g c =
 pub returns-in-Early : goal.returns-in-Early
 returns-in-Early g c =
     goes-early c.args.origin.points.now c.args.origin.last c.args.debugger.now c.search_on.new.debugger _
-    c.in_ok-search_on.field-0 c.in-Early.is c.in_ok-search_on.ensures c.stop_there.ensures
+    c.in_ok-search_on.field-0 c.in-Early.is c.in_ok-search_on.ensures c.stop_there-in-Early.ensures

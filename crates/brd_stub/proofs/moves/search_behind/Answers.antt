@@ -16,4 +16,4 @@ returns-in-Nothing g c =
 pub returns-in-Early : goal.returns-in-Early
 returns-in-Early g c =
     ends-early c.args.origin.points.now c.args.origin.last c.args.debugger.now c.search_back.new.debugger _
-    c.in_ok-search_back.field-0 c.in-Early.is c.in_ok-search_back.ensures c.stop_there.ensures
+    c.in_ok-search_back.field-0 c.in-Early.is c.in_ok-search_back.ensures c.stop_there-in-Early.ensures

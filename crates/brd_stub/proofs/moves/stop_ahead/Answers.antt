@@ -2,7 +2,7 @@ use Rattle.std.proofs.Common.{◌≡◌, subst}
 use Rattle.std.specs.Prelude.{Some}
 use Rattle.brd_debug.specs.Debugger.{DebuggerState, SeesAhead}
 use Rattle.brd_stub.specs.declared.halt.Told.TheVariants as told
-use Rattle.brd_stub.specs.Moving.{Ended, stand}
+use Rattle.brd_stub.specs.Moving.{stand}
 use Rattle.brd_stub.proofs.AnswerLemmas.{if-then}
 use Rattle.brd_stub.proofs.moves.stop_ahead.Goals as goal
 

@@ -1,7 +1,7 @@
 use Rattle.std.proofs.Common.{◌≡◌, subst}
 use Rattle.std.specs.Prelude.{Some, false}
 use Rattle.brd_debug.specs.Debugger.{DebuggerState, SeesAhead}
-use Rattle.brd_stub.specs.Moving.{Ended, stand_behind}
+use Rattle.brd_stub.specs.Moving.{stand_behind}
 use Rattle.brd_stub.proofs.AnswerLemmas.{if-then}
 use Rattle.brd_stub.proofs.moves.stop_behind.Goals as goal
 
