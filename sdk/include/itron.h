@@ -138,7 +138,8 @@ typedef struct t_rmbx {
 #define TIC_NUME 1                      /* a tick is 1 / 1 millisecond */
 #define TIC_DENO 1
 
-/* How many bytes the blocks of a memory pool have: for CRE_MPF with an area of one's own, `UW blocks[TSZ_MPF(5, 20) / 4]`. */
+/* How many bytes the blocks of a memory pool have, for CRE_MPF with an area in the program:
+ * `UW blocks[TSZ_MPF(5, 20) / 4]`. */
 #define TSZ_MPF(blkcnt, blksz) ((blkcnt) * (((blksz) + 3) / 4 * 4))
 
 #ifndef __ASSEMBLER__

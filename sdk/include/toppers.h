@@ -1,6 +1,7 @@
-/* The types, constants and macros of TOPPERS (t_stddef.h, t_syslog.h and kernel.h of TOPPERS/ASP and FMP), as far as the
- * board has what they are for, so that sources that are written for TOPPERS compile: with CFLAGS = -include toppers.h in
- * the Makefile they stay as they are. Which calls there are: docs/C.md, "What of uITRON 4.0 and TOPPERS/FMP is there". */
+/* The types, constants and macros of TOPPERS (t_stddef.h, t_syslog.h and kernel.h of TOPPERS/ASP and FMP), as far as
+ * the board has what they are for, so that sources that are written for TOPPERS compile; with CFLAGS = -include
+ * toppers.h in the Makefile they stay as they are. Which calls there are: docs/C.md, "What of uITRON 4.0 and
+ * TOPPERS/FMP is there". */
 #ifndef TOPPERS_H
 #define TOPPERS_H
 
@@ -43,8 +44,8 @@ typedef void (*INTHDR)(void);
 
 #define ERCD(mercd, sercd) ((ER)((UINT)(sercd) << 8 | ((UINT)(mercd) & 0xff)))
 
-/* A line on the console, whatever its level. From handlers, and while the CPU is locked, nothing can be written: what is
- * lost so the kit's commands say. */
+/* A line on the console, whatever its level. From handlers, and while the CPU is locked, nothing can be written: the
+ * kit's commands say what is lost so. */
 #define LOG_EMERG 0u
 #define LOG_ALERT 1u
 #define LOG_CRIT 2u
