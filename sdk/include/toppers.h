@@ -27,7 +27,7 @@ typedef uint_t MPF_T;
 typedef void (*TASK)(intptr_t exinf);
 typedef void (*INTHDR)(void);
 
-/* Areas: `static MPF_T blocks[5 * COUNT_MPF_T(sizeof(struct block))];`, and `blocks` stands in CRE_MPF. */
+/* Areas: `MPF_T blocks[5 * COUNT_MPF_T(sizeof(struct block))];`, and `blocks` stands in CRE_MPF. */
 #define COUNT_STK_T(sz) (((sz) + sizeof(STK_T) - 1) / sizeof(STK_T))
 #define ROUND_STK_T(sz) (((sz) + sizeof(STK_T) - 1) & ~(sizeof(STK_T) - 1))
 #define COUNT_MPF_T(blksz) (((blksz) + sizeof(MPF_T) - 1) / sizeof(MPF_T))
