@@ -107,7 +107,7 @@ awk 'BEGIN {
     }
     print "S 2 50000\nS 1 50000"
 }' > "$work/kit/shared/firmware.journal"
-projects=(examples/c_program examples/c_protocol examples/c_two_processors "$work"/kit/*)
+projects=(examples/c_program examples/c_protocol examples/c_two_processors examples/c_messages "$work"/kit/*)
 what="programs in C, as Clang makes them"
 if ! have clang "$what" || ! have ld.lld "$what"; then
     :
