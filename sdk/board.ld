@@ -1,5 +1,5 @@
 /* Linker script of the board: everything that is loaded lies from 0x80000000 on, where RAM begins. start.S gives the
- * size of RAM and of the tasks' stacks, which the board lays from the end of RAM down. */
+ * size of RAM, and of the stacks and memory pools that the board lays from the end of RAM down. */
 OUTPUT_FORMAT("elf32-tradbigmips", "elf32-tradbigmips", "elf32-tradlittlemips")
 OUTPUT_ARCH(mips)
 
@@ -24,5 +24,5 @@ SECTIONS
   /DISCARD/ : { *(.debug_aranges) }
 }
 
-ASSERT(_end + board_stacks <= ORIGIN(ram) + board_ram, "the program and the stacks of its tasks don't fit into RAM")
+ASSERT(_end + board_areas <= ORIGIN(ram) + board_ram, "the program, its stacks and memory pools don't fit into RAM")
 ASSERT(SIZEOF(.constructors) == 0, "nobody calls constructors here: call these functions from a task")

@@ -135,6 +135,12 @@ typedef struct t_rmbx {
 #define TMAX_SUSCNT 1
 #define TMAX_MAXSEM 65535
 #define TBIT_FLGPTN 32
+#define TIC_NUME 1                      /* a tick is 1 / 1 millisecond */
+#define TIC_DENO 1
+
+/* How many bytes the blocks of a memory pool have, for CRE_MPF with an area in the program:
+ * `UW blocks[TSZ_MPF(5, 20) / 4]`. */
+#define TSZ_MPF(blkcnt, blksz) ((blkcnt) * (((blksz) + 3) / 4 * 4))
 
 #ifndef __ASSEMBLER__
 #define MERCD(ercd) ((ER)(B)(ercd))     /* the main code of an error; there are no sub-codes here */

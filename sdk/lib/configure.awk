@@ -129,6 +129,8 @@ function enter() {
         print "entry_board " field[1] > entries
     else if (statement == "CRE_TSK" && count == 7)
         print "entry_task " field[0] ", " field[3] ", " field[5] ", " field[6] > entries
+    else if (statement == "CRE_MPF" && count == 5)
+        print "entry_pool " field[2] ", " field[3] ", " field[4] > entries
     else if (statement == "DEF_INH" && count == 3)
         print "entry_handler " field[0] ", " field[2] > entries
 }

@@ -9,7 +9,7 @@
         .cfi_sections .debug_frame
         .equ    EXT_TSK, 3
         .equ    RET_INT, 58
-        .set    stacks, 0
+        .set    areas, 0
 
 /* void board_trap(void): an exception, which stops a handler's processor for good. */
         .macro  trap
@@ -42,7 +42,14 @@ returned_from_\function\().\id:
         .cfi_endproc
         .size   task_\id, . - task_\id
         .ifc    \stack, NULL
-        .set    stacks, stacks + ((\size + 15) / 16) * 16
+        .set    areas, areas + ((\size + 15) / 16) * 16
+        .endif
+        .endm
+
+/* CRE_MPF: the blocks of a pool lie below the stacks, each rounded up to whole words. */
+        .macro  entry_pool count, size, pool
+        .ifc    \pool, NULL
+        .set    areas, areas + \count * (((\size + 3) / 4) * 4)
         .endif
         .endm
 
@@ -73,6 +80,6 @@ end_of_handler_stack_\line:
 #include "entries.inc"
         trap
 
-/* How much the stacks take that the board lays from the end of RAM down, for the linker script. */
-        .globl  board_stacks
-        .equ    board_stacks, stacks
+/* How much the stacks and memory pools take that the board lays from the end of RAM down, for the linker script. */
+        .globl  board_areas
+        .equ    board_areas, areas

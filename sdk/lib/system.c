@@ -19,7 +19,7 @@
 /* Addresses that are numbers: sizes that start.S and the linker script give. */
 extern char board_end[];
 extern char board_ram[];
-extern char board_stacks[];
+extern char board_areas[];
 
 static SPIN_LOCK memory;
 static char *heap_end = board_end;
@@ -66,11 +66,11 @@ void __malloc_unlock(struct _reent *unused)
         unl_cpu();
 }
 
-/* The heap is what lies between the program and the stacks. malloc calls it, under its lock. */
+/* The heap is what lies between the program and the stacks and memory pools. malloc calls it, under its lock. */
 void *_sbrk(ptrdiff_t more)
 {
     char *before = heap_end;
-    char *limit = (char *)(0x80000000 + (UINT)board_ram - (UINT)board_stacks);
+    char *limit = (char *)(0x80000000 + (UINT)board_ram - (UINT)board_areas);
     if (more > limit - before) {
         errno = ENOMEM;
         return (void *)-1;
@@ -93,7 +93,7 @@ struct _reent *__getreent(void)
         __malloc_lock(NULL);
         char *before = heap_end;
         char *start = (char *)(((UINT)before + 7) & ~7u);
-        char *limit = (char *)(0x80000000 + (UINT)board_ram - (UINT)board_stacks);
+        char *limit = (char *)(0x80000000 + (UINT)board_ram - (UINT)board_areas);
         if ((UINT)(limit - start) >= sizeof(struct _reent) && start <= limit) {
             own = (struct _reent *)start;
             heap_end = start + sizeof(struct _reent);

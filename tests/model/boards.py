@@ -143,7 +143,7 @@ class Maker:
         if self.manager:
             self.priority[self.manager], self.place[self.manager] = self.chance(16, max(priorities)), self.processors
         self.others = [task for task in self.tasks if task != self.manager]
-        of_themes = {"mutex": 3} | dict.fromkeys(
+        of_themes = {"mutex": self.chance(1, 2, 2, 3)} | dict.fromkeys(
             "semaphore flag queue receivers lock pool mailbox messages".split(), 1)
         count = of_themes.get(self.theme) or self.chance(0, 1, 1, 2)
         self.semaphores = {key: self.new_semaphore() for key in self.ids(count)}
@@ -235,10 +235,14 @@ class Maker:
         name, = self.random.choices(list(USES), self.weights[who])
         arguments = self.call(code, name, caller)
         end = {"dis_dsp": "ena_dsp", "loc_cpu": "unl_cpu", "loc_spn": "unl_spn", "try_spn": "unl_spn",
+               "loc_mtx": "unl_mtx", "ploc_mtx": "unl_mtx", "tloc_mtx": "unl_mtx",
                "get_mpf": "rel_mpf", "pget_mpf": "rel_mpf", "tget_mpf": "rel_mpf"}.get(name)
-        if end and who < 2 and self.often(.5 if end == "rel_mpf" else .9):
+        if end and who < 2 and self.often({"rel_mpf": .5, "unl_mtx": .8}.get(end, .9)):
             for _ in range(self.random.randrange(4)):
                 self.chance(self.compute, self.calls)(code, who, caller)
+            if who == 0 and end == "unl_mtx" and self.often(.6):
+                # (who waits with a mutex lets others come to wait for it, some of them with another one)
+                self.call(code, self.chance("dly_tsk", "tslp_tsk", "loc_mtx"), caller)
             if who == 0 and self.often(.15):
                 self.chance(self.fail, lambda code: self.call(code, "ext_tsk", caller))(code)
             self.call(code, end, caller, arguments)

@@ -210,7 +210,7 @@ while IFS='|' read -r source config words told how; do
     read -ra given <<< "$words"
     unbounded "${given[@]}"
     case $source,$words,$told in
-    *_right.s,*,none*)
+    *_right.s,*,none* | mutex.s,*,none*)
         assembled "$source"
         explores "$image" "$examples/$config" "${options[@]}" --places 1000000
         wrong=$(holds $?)

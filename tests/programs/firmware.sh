@@ -50,6 +50,41 @@ verdict "the C library, an assertion" "$(
         "$work/said" ||
         cat "$work/said")"
 
+# What malloc takes lies below the kernel's memory pools.
+cat > "$work/lost/firmware.c" << 'END'
+#include <stdlib.h>
+#include "board.h"
+#include "ids.h"
+
+void press(INHNO line)
+{
+    (void)line;
+}
+
+void greet(VP_INT blocks)
+{
+    char *lowest = (char *)-1;
+    char *taken;
+    UINT bytes = 0;
+    VP block;
+    for (INT i = 0; i < blocks; i++)
+        if (get_mpf(1, &block) == E_OK && (char *)block < lowest)
+            lowest = block;
+    while ((taken = malloc(1000)) != NULL) {
+        assert(taken + 1000 <= lowest);
+        bytes += 1000;
+    }
+    assert(bytes > 10000);
+    printf("the blocks begin at %p\n", (void *)lowest);
+    ext_ker();
+}
+END
+sed -i '1iPROFILE(STANDARD);
+$aCRE_MPF(1, {TA_TFIFO, 3, 6001, NULL});' "$work/lost/firmware.cfg"
+echo 'the blocks begin at 0x8003a9a4' > "$work/lost/firmware.console"
+make -s -C "$work/lost" BOARD="$board" LIBC=1 test > "$work/said" 2>&1
+verdict "the C library, malloc beside a memory pool" "$(grep -qxF "ok: firmware.journal" "$work/said" || cat "$work/said")"
+
 left=$((SECONDS_AT_MOST - (SECONDS - started)))
 lines=$(timeout "$((left > 1 ? left : 1))" tests/programs/firmware --short "$board" 2>&1)
 if [ $? = 124 ]; then

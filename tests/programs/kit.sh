@@ -76,13 +76,15 @@ configured() {
 printf '%s\n' '@@1 1024' '@@2 -1' > "$work/values"
 printf '%s\n' '# 0 "a.cfg"' '# 1 "<command-line>"' '#define' '# 1 "a.cfg"' '# 1 "ids.h" 1' 'CRE_SEM(2, {TA_NULL});' \
     '# 2 "a.cfg" 2' '' 'BOARD(1, 0x10000);' '# 7 "a.cfg"' 'CLASS(TCL_1) { CRE_TSK(4, {TA_HLNG | TA_ACT, -1,' \
-    '    go, 1, 2 * (256 +' '    256), NULL}); } DEF_INH(3, {TA_NULL,press});' > "$work/in"
+    '    go, 1, 2 * (256 +' '    256), NULL}); } DEF_INH(3, {TA_NULL,press});' \
+    'CRE_MPF(5, {TA_TFIFO | TA_TPRI, 2, 12, NULL});' > "$work/in"
 printf '%s\n' '@@1 -1' '@@2 1024' > "$work/values"
 printf '%s\n' ' #define CRE_SEM(2, {TA_NULL});' '' 'BOARD(1, 0x10000);' '' '' '' \
     'CLASS(TCL_1) { CRE_TSK(4, {TA_HLNG | TA_ACT, 4294967295,' '    task_4, 1,' \
-    ' 1024, NULL}); } DEF_INH(3, {TA_NULL,handler_3});' > "$work/wanted"
+    ' 1024, NULL}); } DEF_INH(3, {TA_NULL,handler_3});' 'CRE_MPF(5, {TA_TFIFO | TA_TPRI, 2, 12, NULL});' > "$work/wanted"
 verdict "kit: configure.awk" "$(configured < "$work/in" | diff "$work/wanted" -)"
-printf '%s\n' 'entry_board 0x10000' 'entry_task 4, go, 1024, NULL' 'entry_handler 3, press' > "$work/wanted"
+printf '%s\n' 'entry_board 0x10000' 'entry_task 4, go, 1024, NULL' 'entry_handler 3, press' 'entry_pool 2, 12, NULL' \
+    > "$work/wanted"
 verdict "kit: configure.awk for start.S" "$(diff "$work/wanted" "$work/entries")"
 
 have make "programs in C" || { summary; exit; }
@@ -105,7 +107,7 @@ awk 'BEGIN {
     }
     print "S 2 50000\nS 1 50000"
 }' > "$work/kit/shared/firmware.journal"
-projects=(examples/c_program examples/c_protocol examples/c_two_processors "$work"/kit/*)
+projects=(examples/c_program examples/c_protocol examples/c_two_processors examples/c_messages "$work"/kit/*)
 what="programs in C, as Clang makes them"
 if ! have clang "$what" || ! have ld.lld "$what"; then
     :
@@ -659,9 +661,9 @@ mistake "the bytes of a file" 2 "+Hello, number 1 of 6" firmware.c \
 printf 'abcd' > "$new/data/x-y.bin"
 says "the bytes of a file that has changed" 2 "+Hello, number 1 of 8" project "$new" test DATA=data/x-y.bin
 rm -r "$new/data"
-mistake "a section of another name" 2 "mips-linux-gnu-ld: the program and the stacks of its tasks don't fit into RAM" \
+mistake "a section of another name" 2 "mips-linux-gnu-ld: the program, its stacks and memory pools don't fit into RAM" \
     firmware.c '$a__attribute__((section(".mine,\\"aw\\",@nobits#"))) char pool[61400];' all
-mistake "a section .noinit" 2 "mips-linux-gnu-ld: the program and the stacks of its tasks don't fit into RAM" \
+mistake "a section .noinit" 2 "mips-linux-gnu-ld: the program, its stacks and memory pools don't fit into RAM" \
     firmware.c '$a__attribute__((section(".noinit"))) char pool[61400];' all
 mistake "a constructor" 2 "mips-linux-gnu-ld: nobody calls constructors here: call these functions from a task" \
     firmware.c '$a__attribute__((constructor)) static void first(void) { isig_sem(PRESSED); }' all
@@ -708,9 +710,20 @@ says "no program" 2 "$sdk/board.mk:[0-9]+: \*\*\* PROGRAM is one of 'one two', a
     project "$work/several" run PROGRAM=three
 echo wrong > "$work/several/one.console"
 says "several programs, of which one fails" 2 "ok: two.late.journal" project "$work/several" test
-mistake "stacks that don't fit" 2 "mips-linux-gnu-ld: the program and the stacks of its tasks don't fit into RAM" \
+mistake "stacks that don't fit" 2 "mips-linux-gnu-ld: the program, its stacks and memory pools don't fit into RAM" \
     firmware.cfg 's/1024/65536/' all
-mistake "a program that doesn't fit" 2 "mips-linux-gnu-ld: the program and the stacks of its tasks don't fit into RAM" \
+# (one of the kernel's memory pools lies below the stacks, or in a variable)
+printf '#include "itron.h"\nextern UW large[];\nUW large[LARGE / 4];\n' > "$work/outside/large.c"
+with_large=(SOURCES="firmware.c ../outside/large.c")
+pool='1iPROFILE(STANDARD);
+$aCRE_MPF(1, {TA_TFIFO, 2, 4097, NULL});'
+mistake "a memory pool that doesn't fit" 2 "mips-linux-gnu-ld: the program, its stacks and memory pools don't fit into RAM" \
+    firmware.cfg "$pool" all CFLAGS=-DLARGE=54000 "${with_large[@]}"
+mistake "a memory pool that fits" 0 "ok: firmware.journal" \
+    firmware.cfg "$pool" test CFLAGS=-DLARGE=46000 "${with_large[@]}"
+mistake "a memory pool in a variable" 0 "ok: firmware.journal" \
+    firmware.cfg "${pool/NULL/large}" test CFLAGS=-DLARGE=54000 "${with_large[@]}"
+mistake "a program that doesn't fit" 2 "mips-linux-gnu-ld: the program, its stacks and memory pools don't fit into RAM" \
     firmware.c '$aUB large[65536];' all
 mistake "an unknown conversion" 2 \
     "\\+Hello, number the kit's printf has no conversion %n, called before 80[0-9a-f]{6} \\(task 1, processor 1\\)" \

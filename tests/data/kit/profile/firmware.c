@@ -149,9 +149,9 @@ static void mutexes(void)
 
 static void pools(void)
 {
-    VP first;
-    VP second;
-    VP none;
+    VP first = NULL;
+    VP second = NULL;
+    VP none = NULL;
     T_RMPF pool;
     SAY(get_mpf(ONE, &first));
     SAY(pget_mpf(ONE, &second));
@@ -166,7 +166,7 @@ static void pools(void)
 static void mailboxes(void)
 {
     T_MSG *got;
-    T_RMBX mailbox;
+    T_RMBX mailbox = { .wtskid = -1 };
     SAY(snd_mbx(ONE, &low.msgque));
     SAY(snd_mbx(ONE, &high.msgque));
     SAY(snd_mbx(ONE, &below_all.msgque));

@@ -1,0 +1,2 @@
+/* Sources for TOPPERS include this. */
+#include "toppers.h"
