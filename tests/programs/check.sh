@@ -13,7 +13,7 @@ trap 'rm -rf "$work"' EXIT
 # Python without what this machine adds to it (a shim, packages), which takes longer to load than most tests. The folder
 # of such a python3 is PLAIN_PYTHON.
 if [ -z "${PLAIN_PYTHON:-}" ] && command -v python3 > /dev/null; then
-    PLAIN_PYTHON=$work/plain
+    PLAIN_PYTHON=$work/plain_python
     mkdir "$PLAIN_PYTHON"
     printf '#!/bin/sh\nexec "%s" -S "$@"\n' "$(python3 -c 'import sys; print(sys.executable)')" \
         > "$PLAIN_PYTHON/python3"

@@ -16,7 +16,7 @@ cp sdk/debian "$work/kit/sdk"
 cat > "$work/bin/apt-get" << END
 #!/bin/sh
 case "\$*" in
-    *source*) touch package.tar ;;
+    *--download-only*) touch package.tar ;;
     *) touch "$work/kit/build/debian/lists/a_Sources" ;;
 esac
 END
