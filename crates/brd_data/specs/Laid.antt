@@ -1,5 +1,5 @@
--- Files of which one has another text laid over it. `opened`, `created`, `closed` and `tried` say what calls on the
--- files themselves did, `remaining` what one has left to read.
+-- Files of which one has another text laid over it. `opened`, `created` and `closed` say what calls on the files
+-- themselves did, `remaining` what one has left to read.
 use Rattle.std.specs.Prelude.{◌≡◌, ℕ, List, drop, Option, None, Some, Result, Ok, Err}
 use Rattle.std.specs.declared.io.Error.{Error}
 use Rattle.brd_data.specs.declared.laid.Laid.{Laid}
@@ -48,8 +48,3 @@ pub record IsClosed {F W : Type 0} (closed : F → W → F → Type 0) (old : La
   where
     pub is : closed old.files output new.files
     pub same : new.laid ≡ old.laid
-
--- whether a file could be created is tried as without the text
-abbrev pub IsTried : {F : Type 0} → (F → List ℕ → List ℕ → List ℕ → Result Unit Error → Type 0) → Laid F → List ℕ →
-    List ℕ → List ℕ → Result Unit Error → Type 0
-IsTried tried old name image config result = tried old.files name image config result

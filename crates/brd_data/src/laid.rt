@@ -101,7 +101,7 @@ fn is_over(laid: &Option<Text>, name: &str) -> bool
 }
 
 impl<F: Files> Files for Laid<F> {
-    ghost use Rattle.brd_data.specs.Laid.{IsClosed, IsCreated, IsOpened, IsTried};
+    ghost use Rattle.brd_data.specs.Laid.{IsClosed, IsCreated, IsOpened};
 
     type Input = LaidInput<F::Input>;
 
@@ -112,8 +112,6 @@ impl<F: Files> Files for Laid<F> {
     ghost created = { IsCreated F.created };
 
     ghost closed = { IsClosed F.closed };
-
-    ghost tried = { IsTried F.tried };
 
     fn open(&mut self, name: &str) -> io::Result<LaidInput<F::Input>> {
         match self.take_text(name) {

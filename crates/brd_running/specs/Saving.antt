@@ -29,12 +29,6 @@ abbrev pub is_over : Option (List ℕ) → List ℕ → List ℕ → Bool
 is_over None image config = false
 is_over (Some name) image config = bytes_eq name image || bytes_eq name config
 
--- a file is named that could be created when that was tried, and is neither of two others; or none is named
-abbrev pub IsTaken : {F : Type 0} → (F → List ℕ → List ℕ → List ℕ → Result Unit Error → Type 0) → F →
-    Option (List ℕ) → List ℕ → List ℕ → Type 0
-IsTaken tried files None image config = Unit {0}
-IsTaken tried files (Some name) image config = tried files name image config (Ok tt)
-
 -- The file that is named couldn't be created: the fault has its name, and the files are as they were.
 pub record IsRefused {F W : Type 0} (created : F → List ℕ → Result W Error → F → Type 0) (files : F)
     (out : Option (List ℕ)) (fault : CommandFault) : Type 0 where

@@ -1,9 +1,8 @@
 //! Journals that a search has found: their texts, and the files that get them.
 
-ghost use Rattle.std.specs.Prelude.{◌≡◌, IfErr, IfOk, MatchResult, option_map};
+ghost use Rattle.std.specs.Prelude.{◌≡◌, IfErr, MatchResult, option_map};
 ghost use Rattle.brd_journal.specs.Text.{text_of};
-ghost use Rattle.brd_running.specs.Saving.{AreWritten, IsOfJournal, IsRefused, IsTaken, KeepsFromJournal, Saves};
-ghost use Rattle.brd_running.specs.Saving.{is_over};
+ghost use Rattle.brd_running.specs.Saving.{AreWritten, IsOfJournal, IsRefused, KeepsFromJournal, Saves, is_over};
 
 use brd_board::Event;
 use brd_inputs::{CommandFault, Files, ScheduleFault};
@@ -64,9 +63,7 @@ pub fn try_out<F: Files>(
     image: &str,
     config: &str,
 ) -> Result<(), CommandFault>
-    ensures taken { IfOk result
-        (λ _. IsTaken F.tried files.now (option_map (λ name. name.now) out.entry) image.now config.now) }
-    ensures refused { IfErr result (IsRefused F.created files.now (option_map (λ name. name.now) out.entry)) }
+    ensures { IfErr result (IsRefused F.created files.now (option_map (λ name. name.now) out.entry)) }
 {
     let Some(name) = out else {
         return Ok(());

@@ -60,10 +60,6 @@ impl<'a> Files for Noted<'a> {
         Ok(NotedOutput { notes: self.notes })
     }
 
-    fn try_create(&self, _name: &str, _image: &str, _config: &str) -> io::Result<()> {
-        Ok(())
-    }
-
     fn close(&mut self, _output: NotedOutput<'a>) {
         let _ = note(self.notes, "close", "");
     }

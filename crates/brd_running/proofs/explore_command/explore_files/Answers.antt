@@ -9,7 +9,7 @@ pub returns-in-Err : goal.returns-in-Err
 returns-in-Err g c = not_opened c.in-Err.ensures refl refl
 
 pub returns-in-Err-try_out : goal.returns-in-Err-try_out
-returns-in-Err-try_out g c = no_out c.in-Ok.ensures c.in-Err-try_out.ensures.refused refl refl
+returns-in-Err-try_out g c = no_out c.in-Ok.ensures c.in-Err-try_out.ensures refl refl
 
 pub returns-in-Err-explore : goal.returns-in-Err-explore
 returns-in-Err-explore g c = refused c.in-Ok.ensures c.in-Err-explore.ensures refl refl

@@ -9,7 +9,7 @@ pub returns-in-Err : goal.returns-in-Err
 returns-in-Err g c = not_opened c.in-Err.ensures refl refl
 
 pub returns-in-Err-try_out : goal.returns-in-Err-try_out
-returns-in-Err-try_out g c = no_out c.in-Ok.ensures c.in-Err-try_out.ensures.refused refl refl
+returns-in-Err-try_out g c = no_out c.in-Ok.ensures c.in-Err-try_out.ensures refl refl
 
 pub returns-in-Err-shrink : goal.returns-in-Err-shrink
 returns-in-Err-shrink g c = refused c.in-Ok.ensures c.in-Err-shrink.ensures refl refl
