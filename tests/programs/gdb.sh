@@ -1145,7 +1145,7 @@ END
 session "Ctrl-C" << END
 > source $work/interrupted.py
 > continue
-Thread 1( ".*")? received signal SIGINT, Interrupt\\.
+(Thread 1( ".*")?|Program) received signal SIGINT, Interrupt\\.
 .*
 > printf "%d\\n", \$t0 > 0
 1
