@@ -20,9 +20,10 @@ module _ {F I O R W : Type 0}
     (opened : F → List ℕ → Result I Error → F → Type 0) (created : F → List ℕ → Result O Error → F → Type 0)
     (closed : F → O → F → Type 0) (remaining : I → Option (List ℕ)) (contents : O → Option (List ℕ))
     (unread : R → Option (List ℕ)) (written : W → Option (List ℕ)) where
+  -- (It isn't an abbreviation: written out of a request that isn't known it has the ends of all commands.)
   -- `words` and `journal` touch no file, `asm` neither reads standard input nor writes standard output, and `run`,
   -- `race`, `trace`, `journal`, `explore`, `shrink` and `try` don't read standard input.
-  abbrev pub RequestEnds : Request → F → F → R → R → W → W → Result Unit CommandFault → Type 0
+  unfoldable pub RequestEnds : Request → F → F → R → R → W → W → Result Unit CommandFault → Type 0
   RequestEnds (Words steps) files_old files input_old input output_old output result =
       IfSome (unread input_old) (λ text. WordsEnds result text steps (written output_old) (written output))
       × (files ≡ files_old)
