@@ -2,22 +2,28 @@
 use Rattle.std.proofs.Common.{◌≡◌, ℕ, zero, suc, ◌+◌, ◌<◌, ◌≤◌, ◌⊎◌, inl, inr, Bool, true, false, List, [], ◌∷◌, ◌++◌, length, refl, sym, ap, subst, ◌∙◌, arith}
 use Rattle.std.specs.Prelude.{◌-◌, not, if◌then◌else◌, replicate, take, get_or, slice_get, Option, Some, None}
 use Rattle.std.proofs.lemmas.Bool.{cases_Bool, false≢true}
-use Rattle.std.proofs.lemmas.List.{append_assoc, append-nil, take_more}
+use Rattle.std.proofs.lemmas.List.{append_assoc, append-nil, take_more, take_all, get_or_default}
 use Rattle.std.proofs.lemmas.Option.{slice_get_within}
 use Rattle.brd_link.specs.LinkSet.{IsLinkSet}
+use Rattle.brd_exec.specs.declared.outcome.Outcome.{Outcome}
+use Rattle.brd_exec.specs.declared.outcome.Outcome.TheVariants.{Done, Syscall, Exception}
+use Rattle.brd_kernel.specs.declared.processor.Executor.{Executor}
+use Rattle.brd_kernel.specs.Kernel.{context_of}
 use Rattle.brd_board.specs.declared.event.Event.{Event}
 use Rattle.brd_board.specs.declared.event.Event.TheVariants.{Step, Tick, Raise}
-use Rattle.brd_board.specs.Board.{BoardState, Happened, happens}
+use Rattle.brd_board.specs.Executing.{executed_by}
+use Rattle.brd_board.specs.Board.{BoardState, Happened, with_executed, instruction_done, happens}
 use Rattle.brd_journal.specs.Still.{did_nothing}
 use Rattle.brd_explore.specs.declared.bounds.Bounds.{Bounds}
 use Rattle.brd_explore.specs.declared.wanted.Wanted.{Wanted}
 use Rattle.brd_explore.specs.Schedules.{Place, does, stepper, preempts, one_if, spent, is_left, next, place_after, event_at, IsAmong, IsWithin}
 use Rattle.brd_explore.specs.Failures.{fails_at}
-use Rattle.brd_explore.specs.Searching.{NoneFails}
+use Rattle.brd_explore.specs.Searching.{FailsAt, IsFound, NoneFails}
 use Rattle.brd_frames.specs.Agents.{Agent}
 use Rattle.brd_frames.specs.Going.{IsNext}
 use Rattle.brd_frames.specs.Lagging.{Sharing, IsInvisible}
 use Rattle.brd_frames.specs.Reducing.{IsQuiet}
+use Rattle.brd_frames.proofs.StepLemmas.{left_by, step-is}
 use Rattle.brd_frames.proofs.ReduceLemmas.{like-invisible}
 use Rattle.brd_blocks.specs.Stepping.{AllStandWell, IsHidden, IsVisible}
 use Rattle.brd_blocks.proofs.LinkLemmas.{stays-set}
@@ -26,8 +32,8 @@ use Rattle.brd_reach.proofs.WalkLemmas.{next-one, next-loud, after-more}
 use Rattle.brd_lazy.specs.declared.spots.Spot.{Spot}
 use Rattle.brd_lazy.specs.Blocks.{after_steps, end_of, AreHidden, IsBlock, MayCome, IsKept}
 use Rattle.brd_lazy.specs.Trees.{IsCovered, IsLazyTree, IsFine}
-use Rattle.brd_lazy.specs.Finding.{HasWalked, place_of, IsIn, IsMore, IsKnown, HasGone, HasTried, HaveTried, IsDone, AreDone}
-use Rattle.brd_lazy.proofs.StepLemmas.{hidden-more}
+use Rattle.brd_lazy.specs.Finding.{HasWalked, place_of, IsIn, IsMore, IsKnown, HasGone, HasTried, HaveTried, IsDone, AreDone, BeginsAt}
+use Rattle.brd_lazy.proofs.StepLemmas.{ends-at, hidden-more}
 use Rattle.brd_lazy.proofs.RoomLemmas.{some-events}
 use Rattle.brd_lazy.proofs.FollowLemmas.{none-fails}
 use Rattle.brd_lazy.proofs.ScheduleLemmas.{place-then, within-then, rich-same}
@@ -235,6 +241,27 @@ good spots p set it = record {
   richer = it.richer;
 }
 
+did-instruction : (b : BoardState) (cpu address : ℕ) (outcome : Outcome) → not (did_nothing (instruction_done b cpu address outcome).report) ≡ true
+did-instruction b cpu address Done = refl
+did-instruction b cpu address Syscall = refl
+did-instruction b cpu address (Exception code epc bd) = refl
+
+-- whoever is next there does something
+next-does : (b : BoardState) (cpu : ℕ) (who : Agent) → IsNext b cpu who → does b (Step cpu) ≡ true
+unfolding does
+next-does b cpu who next =
+    let x : Executor = next.executor in
+    ap (λ (h : Happened). not (did_nothing h.report)) (step-is b cpu x next.goes_on.on next.goes_on.executes next.goes_on.uninterrupted)
+    ∙ did-instruction (with_executed b (executed_by b.kernel cpu x (context_of b.kernel cpu x).pc (left_by b cpu x))) cpu
+    (context_of b.kernel cpu x).pc (left_by b cpu x).outcome
+
+-- A block leads to the place after it.
+pub block-leads : (by : Sharing) (spots : List Spot) (p : Place) (cpu count : ℕ) → IsBlock by p.board cpu count → IsKnown spots (end_of p cpu count) →
+    IsKnown spots (place_after p (replicate (suc count) (Step cpu)))
+block-leads by spots p cpu count block known =
+    subst (IsKnown spots) (sym (ends-at by p cpu count block.hidden
+    (next-does (after_steps p.board cpu count) cpu block.visible.who block.visible.next))) known
+
 quiet-known : (by : Sharing) (spots : List Spot) (p : Place) (cpu : ℕ) → HasGone by spots p cpu → 0 < p.left.events →
     does p.board (Step cpu) ≡ true → IsQuiet p.board (Step cpu) → IsKnown spots (next p (Step cpu))
 quiet-known by spots p cpu (inl idle) some did quiet = absurd (false≢true (sym idle.0 ∙ did))
@@ -363,3 +390,51 @@ end-is p cpu count b one last is left who =
       left = record { events = events i; preemptions = preemptions i; ticks = ticks i; raises = raises i; owed = owed i };
       last = stepped i;
     })
+
+-- One event more was tried.
+pub tried-next : (by : Sharing) (among : List Event) (old new : List Spot) (p : Place) (i : ℕ) (event : Event) → IsMore old new →
+    (IsLinkSet p.board.links → HaveTried by among old p i) →
+    (is_left p event ≡ true → IsLinkSet p.board.links → HasTried by new p event) → event ≡ get_or among i event → i < length among →
+    IsLinkSet p.board.links → HaveTried by among new p (i + 1)
+tried-next by among old new p i event more before here is within set k less left =
+    elim (less-or-same k i less) [
+      | inl below ↦ tried-more by old new p (event_at among k) more (before set k below left)
+      | inr same ↦
+          let there : event_at among k ≡ event = ap (event_at among) same ∙ sym (is ∙ get_or_default among i event Tick within) in
+          subst (HasTried by new p) (sym there) (here (subst (λ e. is_left p e ≡ true) there left) set)
+    ]
+
+-- A schedule that is followed to the next place.
+
+next-is : (p : Place) (event : Event) (b : BoardState) (left : Bounds) (last : Option ℕ) → b ≡ (happens p.board event).board →
+    left ≡ spent p.left p.last event → last ≡ stepper b p.last event →
+    next p event ≡ record { board = b; left = left; last = last }
+next-is p event b left last board rest who = λ i. record {
+  board = sym board i;
+  left = sym rest i;
+  last = sym (who ∙ ap (λ z. stepper z p.last event) board) i;
+}
+
+pub followed-on : (among : List Event) (from p : Place) (events : List Event) (upto : ℕ) (event : Event) (b : BoardState) (left : Bounds)
+    (last : Option ℕ) → upto < length events → get_or events upto event ≡ event → HasFollowed among from events upto p → IsAmong among event →
+    is_left p event ≡ true → does p.board event ≡ true → b ≡ (happens p.board event).board → left ≡ spent p.left p.last event →
+    last ≡ stepper b p.last event → HasFollowed among from events (upto + 1) (record { board = b; left = left; last = last })
+followed-on among from p events upto event b left last less here it one affords did board rest who =
+    subst (HasFollowed among from events (upto + 1)) (next-is p event b left last board rest who)
+    (followed-more among from p events upto event less here it one affords did)
+
+-- A schedule that was followed to its end, and fails there.
+pub found-so : (wanted : Wanted) (among : List Event) (from p : Place) (events : List Event) → HasFollowed among from events (length events) p →
+    fails_at wanted p.board p.left ≡ true → IsFound wanted among from events
+found-so wanted among from p events it fails =
+    let all : take (length events) events ≡ events = take_all (length events) events (omega arith) in
+    record {
+      within = subst (IsWithin among from) all it.within;
+      few = omega (arith, it.few);
+      fails = subst (λ es. FailsAt wanted (place_after from es)) all (subst (FailsAt wanted) (sym it.is) fails);
+    }
+
+-- The first place.
+pub begins-known : (old new : List Spot) (p : Place) → BeginsAt old p → IsMore old new → IsKnown new p
+begins-known old new p begins more =
+    known-more old new p more (subst (IsKnown old) begins.2 (known-last [] old begins.0 begins.1))

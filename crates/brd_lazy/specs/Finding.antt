@@ -43,6 +43,11 @@ WentSo by b cpu most new block.Cut = AreHidden by b cpu most
 WentSo by b cpu most new (block.Strays count) = Unit {0}
 WentSo by b cpu most new block.Unknown = Unit {0}
 
+-- one that has ended has done so within so many steps
+abbrev pub EndsWithin : ℕ → Block → Type 0
+EndsWithin most (block.Ends count) = count < most
+EndsWithin most _ = Unit {0}
+
 -- Places.
 
 abbrev pub place_of : Spot → Place

@@ -2,7 +2,7 @@
 
 ghost use Rattle.brd_link.specs.LinkSet.{IsLinkSet};
 ghost use Rattle.brd_reach.specs.Rounds.{sharing_for};
-ghost use Rattle.brd_lazy.specs.Finding.{WentSo};
+ghost use Rattle.brd_lazy.specs.Finding.{EndsWithin, WentSo};
 
 use brd_blocks::{Sharing, Stepped};
 use brd_board::Board;
@@ -28,8 +28,9 @@ pub(crate) enum Block {
 
 /// Lets a processor do a block, of at most so many steps.
 pub(crate) fn go(sharing: &Sharing, wanted: &Wanted, board: &mut Board, cpu: u8, most: u32) -> Block
-    ensures { IsLinkSet board.old.links →
+    ensures is { IsLinkSet board.old.links →
         WentSo (sharing_for sharing.now wanted.now) board.old cpu most board.new result }
+    ensures few { EndsWithin most result }
 {
     for at in 0..most {
         match step(sharing, wanted, board, cpu) {

@@ -89,7 +89,11 @@ fn try_event(
 {
     match event {
         Event::Step(cpu) => try_step(spots, here, sharing, wanted, cpu),
-        Event::Tick | Event::Raise(_) => {
+        Event::Tick => {
+            try_other(spots, here, event)?;
+            Ok(Tried::Done)
+        }
+        Event::Raise(_) => {
             try_other(spots, here, event)?;
             Ok(Tried::Done)
         }
