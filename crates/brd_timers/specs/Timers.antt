@@ -1,6 +1,6 @@
 -- Time handlers: cyclic handlers and alarm handlers (uITRON 4.0 specification, "Cyclic Handlers" and "Alarm Handlers").
 -- Ticks are counted from boot on, and a handler is due at ticks: in `brd_kernel` its interrupt line is raised then.
-use Rattle.std.specs.Prelude.{ℕ, ◌+◌, ◌-◌, ◌%◌, ◌^◌, nat_le, nat_lt, Bool, true, false, if◌then◌else◌, List}
+use Rattle.std.specs.Prelude.{ℕ, ◌+◌, ◌-◌, ◌%◌, ◌^◌, nat_le, nat_lt, Bool, false, if◌then◌else◌, List}
 use Rattle.std.specs.Prelude.{slice_index_or, slice_set, Option, None, Some}
 use Rattle.std.specs.Option.{option_map}
 use Rattle.brd_timers.specs.declared.course.Course.{Course}

@@ -17,4 +17,4 @@ pub record IsNextTime (first period now tick : ℕ) : Type 0 where
 -- a time handler after as many ticks from one on, if it is neither started nor stopped meanwhile
 abbrev pub after_ticks : ℕ → Timer → ℕ → Timer
 after_ticks now timer zero = timer
-after_ticks now timer (suc ticks) = ticked (now + suc ticks) (after_ticks now timer ticks)
+after_ticks now timer (suc ticks) = ticked (suc (now + ticks)) (after_ticks now timer ticks)

@@ -1,6 +1,6 @@
 //! A time handler as it stands.
 
-ghost use Rattle.std.specs.Prelude.{◌≡◌, ◌≤◌, ◌<◌, ◌^◌, ◌-◌};
+ghost use Rattle.std.specs.Prelude.{◌≡◌, ◌≤◌, ◌^◌, true};
 ghost use Rattle.brd_timers.specs.Timers.{
   last_count,
   due_after,
