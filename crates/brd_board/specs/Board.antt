@@ -12,7 +12,7 @@ use Rattle.brd_kernel.specs.declared.processor.Processor.{Processor}
 use Rattle.brd_kernel.specs.declared.processor.Standing.{Standing}
 use Rattle.brd_kernel.specs.declared.processor.Spin.{Spin}
 use Rattle.brd_kernel.specs.Kernel.{KernelState, processor_at, context_on, deliverable, accepted_line, with_pending}
-use Rattle.brd_kernel.specs.Kernel.{line_at, standing_on, spin_of, owner_of}
+use Rattle.brd_kernel.specs.Kernel.{can_be_raised, standing_on, spin_of, owner_of}
 use Rattle.brd_kernel.specs.Waits.{ended_by_fault, ticked_on, seen_at}
 use Rattle.brd_kernel.specs.Dispatch.{dispatched, changed_processors}
 use Rattle.brd_sysgate.specs.Gate.{called}
@@ -103,7 +103,7 @@ tick_passed b =
 -- an interrupt is raised, where its line has a handler
 abbrev pub line_raised : BoardState → ℕ → Happened
 line_raised b line =
-    if is_some (line_at b.kernel line).handler
+    if can_be_raised b.kernel line
     then reported (record b { kernel = with_pending b.kernel line }) report.Raised
     else reported b report.NoSuch
 

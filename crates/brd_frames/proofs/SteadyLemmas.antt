@@ -36,7 +36,7 @@ use Rattle.brd_kernel.specs.declared.processor.Executor.{Executor}
 use Rattle.brd_kernel.specs.declared.processor.Executor.TheVariants as executor
 use Rattle.brd_kernel.specs.declared.call.Call.{Call}
 use Rattle.brd_kernel.specs.Answer.{e_ok}
-use Rattle.brd_kernel.specs.Kernel.{KernelState, processor_at, is_held, with_tasks, with_processor, unmarked, running_in, executor_by, executor_in, executor_on, context_of, with_context_of, deliverable, pending_from, accepts, handles, accepted_line, line_at, with_pending}
+use Rattle.brd_kernel.specs.Kernel.{KernelState, processor_at, is_held, with_tasks, with_processor, unmarked, running_in, executor_by, executor_in, executor_on, context_of, with_context_of, deliverable, pending_from, accepts, handles, accepted_line, can_be_raised, with_pending}
 use Rattle.brd_kernel.specs.Waits.{can_wait, with_wait, released_in, reason_of, unlisted, broken_off, answer_by, timed_out, all_timed_out, ticked_on, faulted_task, faulted_in, ended_by_fault, with_released, given_in, all_given_in, quits_in, prioritized}
 use Rattle.brd_kernel.specs.Dispatch.{dispatched_one, dispatched_from, dispatched}
 use Rattle.brd_kernel.specs.Services.{with_all_released_in, with_satisfied_of, handed_over, released_with_second, message_of, unmarked_on, handler_ended, serve_of, caller_on}
@@ -564,9 +564,9 @@ on-steady b Tick (agents.Handler at) off apart =
     ∙ ap is_handling (same-elsewhere at new over (same-prioritized over) ∙ same-elsewhere at over now (same-timed now ids))
     ∙ apart.steady) apart.steady
 on-steady b (Raise line) (agents.Task id) off apart =
-    ap not (either-stays (RestsIn id) (is_some (line_at b.kernel line).handler) _ _ (rests-so b.kernel id apart.steady) (rests-so b.kernel id apart.steady))
+    ap not (either-stays (RestsIn id) (can_be_raised b.kernel line) _ _ (rests-so b.kernel id apart.steady) (rests-so b.kernel id apart.steady))
 on-steady b (Raise line) (agents.Handler at) off apart =
-    either-stays (Works at) (is_some (line_at b.kernel line).handler) _ _ apart.steady apart.steady
+    either-stays (Works at) (can_be_raised b.kernel line) _ _ apart.steady apart.steady
 
 off-steady : (b : BoardState) (event : Event) (who : Agent) (off : Bool) → b.kernel.off ≡ off → IsApart b event who →
     is_steady (if off then reported b report.Off else happens_on b event).board.kernel who ≡ true
