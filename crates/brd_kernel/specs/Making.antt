@@ -36,9 +36,13 @@ idle_one processors cpu = if nat_le 1 cpu && nat_le cpu processors then Some idl
 unfoldable pub idle_ones : ℕ → ℕ → List (Option Processor)
 idle_ones processors count = map (idle_one processors) (range_with_len 0 count)
 
--- the handler of the first setup of a line, if there is one
+-- the first setup of a line, if there is one, and its handler
+
+abbrev pub setup_of : List LineSetup → ℕ → Option LineSetup
+setup_of setups line = find (λ setup. setup.line == line) setups
+
 abbrev pub handler_of : List LineSetup → ℕ → Option Handler
-handler_of setups line = option_map (λ setup. setup.handler) (find (λ setup. setup.line == line) setups)
+handler_of setups line = option_map (λ setup. setup.handler) (setup_of setups line)
 
 -- a line with that handler and nothing pending
 abbrev pub made_line : List LineSetup → ℕ → InterruptLine
@@ -50,7 +54,7 @@ made_lines setups count = map (made_line setups) (range_with_len 0 count)
 
 -- when the kernel raises a line, if it does, by the first setup of that line
 abbrev pub course_of : List LineSetup → ℕ → Option Course
-course_of setups line = option_and_then (λ setup. setup.course) (find (λ setup. setup.line == line) setups)
+course_of setups line = option_and_then (λ setup. setup.course) (setup_of setups line)
 
 -- the time handler at a place, as it is at boot
 abbrev pub made_timer : List LineSetup → ℕ → Option Timer

@@ -6,6 +6,7 @@ ghost use Rattle.brd_kernel.specs.Kernel.{line_count};
 ghost use Rattle.brd_kernel.specs.Making.{
   idle_one,
   idle_ones,
+  setup_of,
   handler_of,
   made_lines,
   course_of,
@@ -119,21 +120,25 @@ fn all_timers_of(alloc: Global, setups: &[LineSetup]) -> Result<Timers, NoMemory
 fn course_of(setups: &[LineSetup], line: u8) -> Option<Course>
     ensures { result ≡ course_of setups.now line }
 {
-    for setup in setups {
-        if setup.line == line {
-            return setup.course;
-        }
-    }
-    None
+    let setup = setup_of(setups, line)?;
+    setup.course
 }
 
 /// The handler of the first setup of a line, if there is one.
 fn handler_of(setups: &[LineSetup], line: u8) -> Option<Handler>
     ensures { result ≡ handler_of setups.now line }
 {
+    let setup = setup_of(setups, line)?;
+    Some(setup.handler)
+}
+
+/// The first setup of a line, if there is one.
+fn setup_of(setups: &[LineSetup], line: u8) -> Option<LineSetup>
+    ensures { result ≡ setup_of setups.now line }
+{
     for setup in setups {
         if setup.line == line {
-            return Some(setup.handler);
+            return Some(*setup);
         }
     }
     None
