@@ -93,14 +93,14 @@ stepped_in b cpu (Some p) =
 abbrev pub stepped : BoardState → ℕ → Happened
 stepped b cpu = stepped_in b cpu (processor_at b.kernel cpu)
 
--- a tick passes, and the waits end whose tick has come; unless the last one has been counted
+-- a tick passes: the waits end whose tick has come, and time handlers are due; unless the last one has been counted
 abbrev pub tick_passed : BoardState → Happened
 tick_passed b =
     if nat_lt b.kernel.time.count last_count
     then then_dispatched (record b { kernel = ticked_on b.kernel (advanced b.kernel.time) }) report.Ticked
     else reported b report.TimeOver
 
--- an interrupt is raised, where its line has a handler
+-- an interrupt is raised, where its line can be raised
 abbrev pub line_raised : BoardState → ℕ → Happened
 line_raised b line =
     if can_be_raised b.kernel line

@@ -299,13 +299,13 @@ all_timed_out k (id ∷ ids) = all_timed_out (timed_out k id) ids
 -- pending, as by an interrupt from outside, and it has its next time, if it has one.
 
 abbrev pub rung_at : KernelState → ℕ → KernelState
-rung_at k place =
-    if is_due_at k.time.count k.timers place
-    then record k {
-      timers = passed_at k.time.count k.timers place;
-      lines = slice_set k.lines (timer_line place) (record (line_at k (timer_line place)) { pending = true });
-    }
-    else k
+rung_at k place = record k {
+  timers = passed_at k.time.count k.timers place;
+  lines =
+      if is_due_at k.time.count k.timers place
+      then slice_set k.lines (timer_line place) (record (line_at k (timer_line place)) { pending = true })
+      else k.lines;
+}
 
 -- those of the places below a number
 unfoldable pub rung_below : KernelState → ℕ → KernelState

@@ -1,8 +1,8 @@
 -- What is counted of a run, while a board plays on.
 use Rattle.std.proofs.Common.{◌≡◌, inl, inr, ℕ, zero, suc, ◌+◌, ◌-◌, ◌<◌, ◌≤◌, ◌^◌, List, [], ◌∷◌, ◌++◌, length, length-take, take, drop, map, replicate, refl, sym, ap, subst, ◌∙◌, arith}
-use Rattle.std.specs.Prelude.{Bool, true, false, ◌==◌, min, if◌then◌else◌, is_some, slice_index_or, slice_set, unwrap_or, Option, None, Some, Result, Ok, Err, OnOk}
+use Rattle.std.specs.Prelude.{Bool, true, false, ◌==◌, ◌&&◌, nat_lt, min, if◌then◌else◌, is_some, slice_index_or, slice_set, unwrap_or, Option, None, Some, Result, Ok, Err, OnOk}
 use Rattle.std.specs.List.{cons_option}
-use Rattle.std.proofs.lemmas.Bool.{cond-true, cond-false, eq-eqb, ne_eqb, false≢true}
+use Rattle.std.proofs.lemmas.Bool.{and_parts, cond-true, cond-false, eq-eqb, ne_eqb, false≢true}
 use Rattle.std.proofs.Math.Seq.{take-add}
 use Rattle.brd_exec.specs.State.{State}
 use Rattle.brd_isa.specs.declared.instruction.Insn.{Insn}
@@ -253,10 +253,10 @@ raised-by false false b line on none =
     record { off = refl; handled = refl; waits = λ _ some. absurd (false≢true (sym none ∙ some)) }
 raised-by false true b line on some =
     let there : line_at (with_pending b.kernel line) line ≡ pending (line_at b.kernel line) =
-    set-there b.kernel.lines line (pending (line_at b.kernel line)) some in
+    set-there b.kernel.lines line (pending (line_at b.kernel line)) (and_parts (nat_lt line 32) (is_some (line_at b.kernel line).handler) some).1 in
     record {
       off = refl;
-      handled = ap (λ (it : InterruptLine). is_some it.handler) there;
+      handled = ap (λ (it : InterruptLine). nat_lt line 32 && is_some it.handler) there;
       waits = λ _ _. ap (λ (it : InterruptLine). it.pending) there;
     }
 

@@ -1,7 +1,6 @@
 //! Cyclic handlers and alarm handlers: the service calls, each as its row of the table says, and what a tick does.
 
 ghost use Rattle.std.specs.Prelude.{◌≡◌, ◌<◌, true};
-ghost use Rattle.brd_timers.specs.Timers.{timer_at};
 ghost use Rattle.brd_kernel.specs.Kernel.{cyclic_place, alarm_place};
 ghost use Rattle.brd_kernel.specs.Row.{Serves, served};
 ghost use Rattle.brd_kernel.specs.Services as table;
@@ -95,6 +94,7 @@ impl Kernel {
     }
 
     /// The line of the time handler at a place is pending, if its time has come, and it goes on to its next time.
+    #[tactic(auto, using(crate::proofs::LineLemmas::many_lines))]
     fn ring_at(&mut self, place: u8)
         requires place { place < 128 }
         requires standard { self.old.standard ≡ true }
