@@ -31,6 +31,9 @@ use Rattle.brd_objects.specs.declared.mutex.Mutex.{Mutex}
 use Rattle.brd_objects.specs.Mutexes.{given, next_owner_in}
 use Rattle.brd_objects.specs.Pools.{PoolState, block_for, given_back, next_holder}
 use Rattle.brd_objects.specs.Mailboxes.{MailboxState, message_sent, message_outcome, next_message}
+use Rattle.brd_kernel.proofs.RingLemmas.{rung-keeps}
+use Rattle.brd_timers.specs.declared.timer.Timer.{Timer}
+use Rattle.brd_kernel.specs.Services.{sta_cyc, stp_cyc, sta_alm, stp_alm, ref_cyc, ref_alm}
 use Rattle.brd_kernel.specs.declared.processor.Processor.{Processor}
 use Rattle.brd_kernel.specs.declared.processor.Spin.{Spin}
 use Rattle.brd_kernel.specs.declared.processor.Executor.{Executor}
@@ -447,6 +450,12 @@ serve-lives id k cpu caller (call.TrcvMbx b timeout) spares was =
     leaves-row (Living id) (trcv_mbx k caller b timeout) (λ (it : MailboxState) passes. message-lives id k caller b timeout (next_message it) was)
 serve-lives id k cpu caller (call.RefMpf p word) spares was = leaves-row (Living id) (ref_mpf k p word) (λ (it : PoolState) passes. was)
 serve-lives id k cpu caller (call.RefMbx b word) spares was = leaves-row (Living id) (ref_mbx k b word) (λ (it : MailboxState) passes. was)
+serve-lives id k cpu caller (call.StaCyc c) spares was = leaves-row (Living id) (sta_cyc k c) (λ (it : Timer) passes. was)
+serve-lives id k cpu caller (call.StpCyc c) spares was = leaves-row (Living id) (stp_cyc k c) (λ (it : Timer) passes. was)
+serve-lives id k cpu caller (call.StaAlm a time) spares was = leaves-row (Living id) (sta_alm k a time) (λ (it : Timer) passes. was)
+serve-lives id k cpu caller (call.StpAlm a) spares was = leaves-row (Living id) (stp_alm k a) (λ (it : Timer) passes. was)
+serve-lives id k cpu caller (call.RefCyc c word) spares was = leaves-row (Living id) (ref_cyc k c word) (λ (it : Timer) passes. was)
+serve-lives id k cpu caller (call.RefAlm a word) spares was = leaves-row (Living id) (ref_alm k a word) (λ (it : Timer) passes. was)
 
 -- Then tasks are given the priorities that they are to have.
 
@@ -636,7 +645,8 @@ on-lives id b Tick off other never was =
     let now : KernelState = record b.kernel { time = advanced b.kernel.time } in
     let ids : List ℕ = due_from (advanced b.kernel.time) 0 in
     either-lives id (nat_lt b.kernel.time.count last_count) _ _
-    (all-prioritized-lives id (all_timed_out now ids) (all-timed-lives id now ids was)) was
+    (rung-keeps (LivesIn id) (prioritized (all_timed_out now ids)) (λ x timers lines lives. lives)
+    (all-prioritized-lives id (all_timed_out now ids) (all-timed-lives id now ids was))) was
 on-lives id b (Raise line) off other never was = either-lives id (can_be_raised b.kernel line) _ _ was was
 
 off-lives : (id : ℕ) (b : BoardState) (event : Event) (off : Bool) → b.kernel.off ≡ off → (Executes b event (agents.Task id) → ⊥) →

@@ -28,6 +28,7 @@ use Rattle.brd_objects.specs.declared.mutex.Mutex.{Mutex}
 use Rattle.brd_objects.specs.Mutexes.{given, next_owner_in}
 use Rattle.brd_objects.specs.Pools.{PoolState, given_back, next_holder}
 use Rattle.brd_objects.specs.Mailboxes.{MailboxState, message_sent, message_outcome}
+use Rattle.brd_kernel.proofs.RingLemmas.{rung-keeps}
 use Rattle.brd_kernel.specs.declared.processor.Processor.{Processor}
 use Rattle.brd_kernel.specs.declared.processor.Executor.{Executor}
 use Rattle.brd_kernel.specs.declared.processor.Executor.TheVariants as executor
@@ -273,6 +274,7 @@ rooms-law Known k cpu caller = record {
   writes = λ word. record { tasks = refl; handlers = refl };
   ends_all = record { tasks = refl; handlers = refl };
   sets_clock = λ clock. record { tasks = refl; handlers = refl };
+  sets_timers = λ timers. record { tasks = refl; handlers = refl };
 }
 
 -- Events.
@@ -332,7 +334,9 @@ stepped-rooms b cpu (Some p) =
 ticked-rooms : (k : KernelState) → Rooms (ticked_on k (advanced k.time)) k
 ticked-rooms k =
     let time : Time = advanced k.time in
-    prioritized-rooms k _ (via (all-timed-rooms (record k { time = time }) (due_from time 0)) refl refl)
+    let ended : KernelState = all_timed_out (record k { time = time }) (due_from time 0) in
+    rung-keeps (λ new. Rooms new k) (prioritized ended) (λ x timers lines same. record { tasks = same.tasks; handlers = same.handlers })
+    (prioritized-rooms k ended (via (all-timed-rooms (record k { time = time }) (due_from time 0)) refl refl))
 
 on-rooms : (b : BoardState) (event : Event) → Rooms (happens_on b event).board.kernel b.kernel
 on-rooms b (Step cpu) = stepped-rooms b cpu (processor_at b.kernel cpu)

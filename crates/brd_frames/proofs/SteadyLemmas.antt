@@ -31,6 +31,8 @@ use Rattle.brd_objects.specs.declared.mutex.Mutex.{Mutex}
 use Rattle.brd_objects.specs.Mutexes.{given, next_owner_in}
 use Rattle.brd_objects.specs.Pools.{PoolState, given_back, next_holder}
 use Rattle.brd_objects.specs.Mailboxes.{MailboxState, message_sent, message_outcome}
+use Rattle.brd_kernel.proofs.RingLemmas.{rung-keeps}
+use Rattle.brd_kernel.specs.Waits.{rung}
 use Rattle.brd_kernel.specs.declared.processor.Processor.{Processor}
 use Rattle.brd_kernel.specs.declared.processor.Executor.{Executor}
 use Rattle.brd_kernel.specs.declared.processor.Executor.TheVariants as executor
@@ -288,6 +290,7 @@ rests-law Known id k cpu caller apart was = record {
   writes = λ word. was;
   ends_all = was;
   sets_clock = λ clock. was;
+  sets_timers = λ timers. was;
 }
 
 -- Who waits is the task that executes.
@@ -552,16 +555,23 @@ on-steady b Tick (agents.Task id) off apart =
     let now : KernelState = record b.kernel { time = advanced b.kernel.time } in
     let ids : List ℕ = due_from (advanced b.kernel.time) 0 in
     ap not (either-stays (RestsIn id) (nat_lt b.kernel.time.count last_count) _ _
-    (prioritized-rests id (all_timed_out now ids) (all-timed-rests id now ids (rests-so b.kernel id apart.steady)))
+    (rung-keeps (RestsIn id) (prioritized (all_timed_out now ids)) (λ x timers lines rests. rests)
+    (prioritized-rests id (all_timed_out now ids) (all-timed-rests id now ids (rests-so b.kernel id apart.steady))))
     (rests-so b.kernel id apart.steady))
 on-steady b Tick (agents.Handler at) off apart =
     let now : KernelState = record b.kernel { time = advanced b.kernel.time } in
     let ids : List ℕ = due_from (advanced b.kernel.time) 0 in
     let over : KernelState = all_timed_out now ids in
-    let new : KernelState = prioritized over in
+    let settled : KernelState = prioritized over in
+    let new : KernelState = rung settled in
+    let same-rung : Same new settled =
+    rung-keeps (λ x. Same x settled) settled
+    (λ x timers lines same. record { processors = same.processors; spin_locks = same.spin_locks; standard = same.standard })
+    (record { processors = refl; spin_locks = refl; standard = refl }) in
     either-stays (Works at) (nat_lt b.kernel.time.count last_count) _ _
     (dispatched-works new.tasks 0 at new.processors
-    ∙ ap is_handling (same-elsewhere at new over (same-prioritized over) ∙ same-elsewhere at over now (same-timed now ids))
+    ∙ ap is_handling
+    (same-elsewhere at new settled same-rung ∙ same-elsewhere at settled over (same-prioritized over) ∙ same-elsewhere at over now (same-timed now ids))
     ∙ apart.steady) apart.steady
 on-steady b (Raise line) (agents.Task id) off apart =
     ap not (either-stays (RestsIn id) (can_be_raised b.kernel line) _ _ (rests-so b.kernel id apart.steady) (rests-so b.kernel id apart.steady))
