@@ -399,11 +399,11 @@ and_false true = refl
 and_false false = refl
 
 abbrev entry : Bool → ℕ → ℕ → List TaskConfig → List SemaphoreConfig → List FlagConfig → List QueueConfig → List SpinLockConfig → List MutexConfig → List PoolConfig → List MailboxConfig → List CyclicConfig → List AlarmConfig → List HandlerConfig → Configuration
-entry b p r ts ss fs qs ls xs bs ms ys as hs = record { standard = b; processors = p; ram = r; tasks = ts; semaphores = ss; flags = fs; queues = qs; spin_locks = ls; mutexes = xs; pools = bs; mailboxes = ms; cyclics = ys; alarms = as; handlers = hs }
+entry b p r ts ss fs qs ls xs bs ms ys ws hs = record { standard = b; processors = p; ram = r; tasks = ts; semaphores = ss; flags = fs; queues = qs; spin_locks = ls; mutexes = xs; pools = bs; mailboxes = ms; cyclics = ys; alarms = ws; handlers = hs }
 
-same : (a b : Bool) → a ≡ b → (p q : ℕ) → p ≡ q → (r s : ℕ) → r ≡ s → (ts us : List TaskConfig) → ts ≡ us → (ss vs : List SemaphoreConfig) → ss ≡ vs → (fs gs : List FlagConfig) → fs ≡ gs → (qs rs : List QueueConfig) → qs ≡ rs → (ls ms : List SpinLockConfig) → ls ≡ ms → (xs zs : List MutexConfig) → xs ≡ zs → (os ps : List PoolConfig) → os ≡ ps → (cs ds : List MailboxConfig) → cs ≡ ds → (ys ws : List CyclicConfig) → ys ≡ ws → (as bs : List AlarmConfig) → as ≡ bs → (hs ks : List HandlerConfig) → hs ≡ ks
-    → entry a p r ts ss fs qs ls xs os cs ys as hs ≡ entry b q s us vs gs rs ms zs ps ds ws bs ks
-same a b e p q e0 r s e1 ts us e2 ss vs e3 fs gs e4 qs rs e5 ls ms e6 xs zs e8 os ps e9 cs ds e10 ys ws e11 as bs e12 hs ks e7 = rw (e, e0, e1, e2, e3, e4, e5, e6, e8, e9, e10, e11, e12, e7) refl
+same : (a b : Bool) → a ≡ b → (p q : ℕ) → p ≡ q → (r s : ℕ) → r ≡ s → (ts us : List TaskConfig) → ts ≡ us → (ss vs : List SemaphoreConfig) → ss ≡ vs → (fs gs : List FlagConfig) → fs ≡ gs → (qs rs : List QueueConfig) → qs ≡ rs → (ls ms : List SpinLockConfig) → ls ≡ ms → (xs zs : List MutexConfig) → xs ≡ zs → (os ps : List PoolConfig) → os ≡ ps → (cs ds : List MailboxConfig) → cs ≡ ds → (ys ws : List CyclicConfig) → ys ≡ ws → (is js : List AlarmConfig) → is ≡ js → (hs ks : List HandlerConfig) → hs ≡ ks
+    → entry a p r ts ss fs qs ls xs os cs ys is hs ≡ entry b q s us vs gs rs ms zs ps ds ws js ks
+same a b e p q e0 r s e1 ts us e2 ss vs e3 fs gs e4 qs rs e5 ls ms e6 xs zs e8 os ps e9 cs ds e10 ys ws e11 is js e12 hs ks e7 = rw (e, e0, e1, e2, e3, e4, e5, e6, e8, e9, e10, e11, e12, e7) refl
 
 -- one turn over a statement
 step_again : (c : Configuration) (class : Option ℕ) (x : Statement) (next : State) (t u : Text) → is_end (first t).token ≡ false → statement_at c.standard (is_some class) t ≡ Ok (x, u) → added (first t).line (record { config = c; class = class }) x ≡ Ok next
