@@ -7,6 +7,7 @@
 
 mod answer;
 mod halt;
+mod marks;
 pub mod laws;
 mod memory;
 mod monitor;
