@@ -1,6 +1,6 @@
 -- Which request a packet makes, as it is read. `specs/Grammar.antt` says the same without reading.
 use Rattle.std.specs.Prelude.{ℕ, ◌+◌, ◌-◌, ◌^◌, ◌==◌, if◌then◌else◌, Bool, true, false, List, [], ◌∷◌, length, take}
-use Rattle.std.specs.Prelude.{◌&&◌, nat_le, drop, replicate}
+use Rattle.std.specs.Prelude.{◌++◌, ◌&&◌, nat_le, drop, replicate}
 use Rattle.std.specs.Prelude.{codes, Option, Some, None, option_map, option_and_then}
 use Rattle.std.specs.List.{slice_split}
 use Rattle.std.specs.Str.{bytes_eq}

@@ -7,8 +7,8 @@
 
 mod answer;
 mod halt;
-mod marks;
 pub mod laws;
+mod marks;
 mod memory;
 mod monitor;
 mod moves;

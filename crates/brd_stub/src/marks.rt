@@ -31,11 +31,7 @@ pub fn mark_of(marks: &[NamedMark], name: MarkName) -> Option<u64>
 }
 
 /// Lets the mark of a name stand at a position, unless 64 others have names. Answers whether it stands there now.
-pub fn set_mark(
-    marks: &mut Vec<NamedMark>,
-    name: MarkName,
-    position: u64,
-) -> Result<bool, NoMemory>
+pub fn set_mark(marks: &mut Vec<NamedMark>, name: MarkName, position: u64) -> Result<bool, NoMemory>
     ensures set { OnOk result (marks.new.items ≡ with_mark marks.old.items name position) }
     ensures may { IfOk result (λ set. set ≡ may_mark marks.old.items name) }
 {

@@ -353,7 +353,10 @@ impl Session {
         match mark_of(&self.named, name) {
             Some(position) => self.go_to(alloc, position, progress),
             None => Ok(Answer {
-                console: text(alloc, b"no mark has this name; `monitor marks` lists them\n")?,
+                console: text(
+                    alloc,
+                    b"no mark has this name; `monitor marks` lists them\n",
+                )?,
                 reply: text(alloc, b"OK")?,
             }),
         }
