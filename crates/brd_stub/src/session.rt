@@ -34,7 +34,7 @@ ghost use Rattle.brd_stub.specs.Threads.{thread_for};
 
 use crate::answer::Answer;
 use crate::halt::{Halt, Reason, Stop, Told};
-use crate::marks::{NamedMark, mark_of, set_mark};
+use crate::marks::Marks;
 use crate::moves::{Origin, backward, forward};
 use crate::points::{Point, Points, load};
 use crate::selection::Selection;
@@ -69,7 +69,7 @@ pub struct Session {
     /// At which positions the marks stand.
     pub marks: [u64; MARKS],
     /// Those with names.
-    pub named: Vec<NamedMark>,
+    pub named: Marks,
 }
 
 /// Written out, so that a function that lets one go is proved with a call, and not with the end of each part.
@@ -106,7 +106,7 @@ impl Session {
             kind: first.kind,
             selection: Selection::new(first.thread),
             marks: [0; MARKS],
-            named: Vec::new(alloc),
+            named: Marks::new(alloc),
         })
     }
 
@@ -329,7 +329,7 @@ impl Session {
         ensures short { IfOk result (λ answer. length answer.reply.items ≤ packet_size) }
     {
         let position = self.debugger.position();
-        let console = if set_mark(&mut self.named, name, position)? {
+        let console = if self.named.set(name, position)? {
             format!(in alloc; "the mark stands at {position}\n")?
         } else {
             format!(in alloc; "64 other marks have names\n")?
@@ -350,7 +350,7 @@ impl Session {
         ensures becomes { IfOk result (λ _. self.new ≡ gone_to_name self.old name) }
         ensures short { IfOk result (λ answer. length answer.reply.items ≤ packet_size) }
     {
-        match mark_of(&self.named, name) {
+        match self.named.position_of(name) {
             Some(position) => self.go_to(alloc, position, progress),
             None => Ok(Answer {
                 console: text(
