@@ -89,12 +89,12 @@ impl Session {
 
 /// The bytes before the first zero.
 fn front(bytes: &[u8]) -> &[u8] {
-    let mut count = 0;
+    let mut count: usize = 0;
     for byte in bytes {
         if *byte == 0 {
             break;
         }
-        count += 1;
+        count = count.saturating_add(1);
     }
     bytes.get(..count).unwrap_or(bytes)
 }
