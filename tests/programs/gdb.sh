@@ -1168,7 +1168,7 @@ END
 session "Ctrl-C" << END
 > source $work/interrupted.py
 > continue
-Thread 1( ".*")? received signal SIGINT, Interrupt\\.
+(Program|Thread 1( ".*")?) received signal SIGINT, Interrupt\\.
 .*
 > printf "%d\\n", \$t0 > 0
 1
