@@ -3,6 +3,11 @@
 # tests/programs/ide.sh PROGRAM. GDB's machine interface is given what an editor gives it, by the program and by a port;
 # Emacs itself runs without a window. What takes a tool that is missing is skipped, which a line says.
 . "$(dirname "$0")/check.sh"
+
+# may_have TOOL NAME: as `have`, of a tool that .ci/run doesn't install.
+may_have() {
+    command -v "$1" > /dev/null || { skip "$2" "$1, which the gate doesn't install"; return 1; }
+}
 sdk=$PWD/sdk
 for tool in python3 make mips-linux-gnu-gcc gdb-multiarch; do
     have $tool "GDB in editors" || { summary; exit; }
@@ -169,15 +174,15 @@ at_port() {
     kill $server
     wait $server 2> "$work/nothing"
 }
-! have socat "GDB's server at a port, by socat" || at_port socat "$PATH"
-if have ncat "GDB's server at a port, by ncat"; then
+! may_have socat "GDB's server at a port, by socat" || at_port socat "$PATH"
+if may_have ncat "GDB's server at a port, by ncat"; then
     ln -s "$(command -v ncat)" "$work/few/ncat"
     at_port ncat "$work/few"
 fi
 
 # ---- Emacs
 
-if have emacs "GDB in Emacs"; then
+if may_have emacs "GDB in Emacs"; then
     cat > "$work/gud.el" << 'END'
 (require 'gdb-mi)
 (setq gdb-show-main nil)
