@@ -16,7 +16,7 @@ use Rattle.brd_kernel.specs.declared.processor.Processor.{Processor}
 use Rattle.brd_kernel.specs.declared.processor.Executor.{Executor}
 use Rattle.brd_kernel.specs.declared.processor.Executor.TheVariants as executor
 use Rattle.brd_kernel.specs.declared.call.Call.{Call}
-use Rattle.brd_kernel.specs.Kernel.{KernelState, processor_at, executor_on, context_of, with_context_of, context_on, deliverable, handles, accepted_line, entry_of, line_at, with_pending, accepts}
+use Rattle.brd_kernel.specs.Kernel.{KernelState, processor_at, executor_on, context_of, with_context_of, context_on, deliverable, handles, accepted_line, entry_of, line_at, can_be_raised, with_pending, accepts}
 use Rattle.brd_kernel.specs.Waits.{ticked_on}
 use Rattle.brd_kernel.specs.Dispatch.{changed_processors}
 use Rattle.brd_kernel.specs.Services.{caller_on, serve_by}
@@ -176,7 +176,7 @@ on-with : (f g : Contexts) (b : BoardState) (event : Event) → EventFrees f g b
     happens_on (b-with f g b) event ≡ h-with f g (happens_on b event)
 on-with f g b (Step cpu) free = stepped-with f g b cpu (processor_at b.kernel cpu) free
 on-with f g b Tick free = tick-with f g b (nat_lt b.kernel.time.count last_count) free
-on-with f g b (Raise line) free = raise-with f g b line (is_some (line_at b.kernel line).handler)
+on-with f g b (Raise line) free = raise-with f g b line (can_be_raised b.kernel line)
 
 off-with : (f g : Contexts) (b : BoardState) (event : Event) (off : Bool) → (off ≡ false → EventFrees f g b event) →
     (if off then reported (b-with f g b) report.Off else happens_on (b-with f g b) event)

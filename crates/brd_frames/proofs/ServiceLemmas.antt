@@ -24,6 +24,8 @@ use Rattle.brd_objects.specs.DataQueues.{DataQueueState, sent, outcome, forced, 
 use Rattle.brd_objects.specs.declared.mutex.Mutex.{Mutex}
 use Rattle.brd_objects.specs.Pools.{PoolState, block_for, given_back, next_holder}
 use Rattle.brd_objects.specs.Mailboxes.{MailboxState, message_sent, message_outcome, next_message}
+use Rattle.brd_timers.specs.declared.timer.Timer.{Timer}
+use Rattle.brd_kernel.specs.Services.{sta_cyc, stp_cyc, sta_alm, stp_alm, ref_cyc, ref_alm, timer_words}
 use Rattle.brd_kernel.specs.declared.processor.Processor.{Processor}
 use Rattle.brd_kernel.specs.declared.processor.Spin.{Spin}
 use Rattle.brd_kernel.specs.declared.processor.Executor.{Executor}
@@ -499,6 +501,14 @@ serve-alike f g k cpu caller (call.RefMpf p word) free =
     row (ref_mpf k p word) _ (λ (it : PoolState) passed. answers _ _ e_ok (Some (slice_index (pool_words it) word)) refl refl)
 serve-alike f g k cpu caller (call.RefMbx b word) free =
     row (ref_mbx k b word) _ (λ (it : MailboxState) passed. answers _ _ e_ok (Some (slice_index (mailbox_words it) word)) refl refl)
+serve-alike f g k cpu caller (call.StaCyc c) free = row (sta_cyc k c) _ (λ (it : Timer) passed. answers _ _ e_ok None refl refl)
+serve-alike f g k cpu caller (call.StpCyc c) free = row (stp_cyc k c) _ (λ (it : Timer) passed. answers _ _ e_ok None refl refl)
+serve-alike f g k cpu caller (call.StaAlm a time) free = row (sta_alm k a time) _ (λ (it : Timer) passed. answers _ _ e_ok None refl refl)
+serve-alike f g k cpu caller (call.StpAlm a) free = row (stp_alm k a) _ (λ (it : Timer) passed. answers _ _ e_ok None refl refl)
+serve-alike f g k cpu caller (call.RefCyc c word) free =
+    row (ref_cyc k c word) _ (λ (it : Timer) passed. answers _ _ e_ok (Some (slice_index (timer_words k.time.count it) word)) refl refl)
+serve-alike f g k cpu caller (call.RefAlm a word) free =
+    row (ref_alm k a word) _ (λ (it : Timer) passed. answers _ _ e_ok (Some (slice_index (timer_words k.time.count it) word)) refl refl)
 
 -- Then tasks are given the priorities that they are to have.
 

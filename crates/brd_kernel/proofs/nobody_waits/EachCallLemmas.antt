@@ -140,6 +140,7 @@ each-law k cpu caller was =
       writes = λ word. others-kept k (record k { console = k.console ++ word % 2 ^ 8 ∷ [] }) refl refl refl refl refl refl was.sleepers was;
       ends_all = others-kept k (record k { off = true }) refl refl refl refl refl refl was.sleepers was;
       sets_clock = λ clock. others-kept k (record k { clock = clock }) refl refl refl refl refl refl was.sleepers was;
+      sets_timers = λ timers. others-kept k (record k { timers = timers }) refl refl refl refl refl refl was.sleepers was;
     }
 
 pub serve-kept : (k : KernelState) (cpu : ℕ) (c : Call) → EachIsKept k → EachIsKept (serve_of k cpu c).kernel
