@@ -6,6 +6,7 @@ use Rattle.brd_exec.specs.State.{State, opening}
 use Rattle.brd_tasks.specs.Tasks.{TaskTable, no_context, context_at, with_context}
 use Rattle.brd_time.specs.Time.{Time}
 use Rattle.brd_timers.specs.declared.timer.Timer.{Timer}
+use Rattle.brd_timers.specs.Timers.{timer_at}
 use Rattle.brd_objects.specs.declared.semaphore.Semaphore.{Semaphore}
 use Rattle.brd_objects.specs.declared.flag.Flag.{Flag}
 use Rattle.brd_objects.specs.declared.mutex.Mutex.{Mutex}
@@ -123,6 +124,15 @@ alarm_place id = 2 * id - 1
 
 abbrev pub timer_line : ℕ → ℕ
 timer_line place = place + 32
+
+-- the tick at which the time handler at a place is due next; None where it is stopped, or isn't there
+
+abbrev pub due_in : Option Timer → Option ℕ
+due_in None = None
+due_in (Some timer) = timer.due
+
+abbrev pub timer_due : KernelState → ℕ → Option ℕ
+timer_due k place = due_in (timer_at k.timers place)
 
 -- a line with nothing pending
 abbrev pub quiet : Option Handler → InterruptLine
