@@ -1,5 +1,5 @@
 -- The kernel: what it keeps, interrupts, spin locks, and what is seen of it.
-use Rattle.std.specs.Prelude.{◌≡◌, ℕ, ◌+◌, ◌-◌, ◌*◌, ◌==◌, nat_lt, Bool, true, false, not, ◌&&◌, ◌||◌, if◌then◌else◌}
+use Rattle.std.specs.Prelude.{ℕ, ◌+◌, ◌-◌, ◌*◌, ◌==◌, nat_lt, Bool, true, false, not, ◌&&◌, ◌||◌, if◌then◌else◌}
 use Rattle.std.specs.Prelude.{List, [], ◌∷◌, slice_index_or, slice_set, Option, None, Some, is_some}
 use Rattle.std.specs.Option.{option_map}
 use Rattle.brd_exec.specs.State.{State, opening}
@@ -173,8 +173,8 @@ can_be_raised k line = nat_lt line 32 && is_some (line_at k line).handler
 abbrev pub raised : KernelState → ℕ → KernelState
 raised k line = if can_be_raised k line then with_pending k line else k
 
--- the context in which the handler of a line starts: at its address, all registers 0 but its argument in $a0 (at 0, with
--- the line there, where there is no handler)
+-- the context in which the handler of a line starts: at its address, all registers 0 but its argument in $a0 (at 0,
+-- with the line there, where there is no handler)
 abbrev pub entry_of : ℕ → Option Handler → State
 entry_of line None = opening 0 line 0
 entry_of line (Some handler) = opening handler.address handler.argument 0
