@@ -27,7 +27,7 @@ ghost use Rattle.brd_summary.specs.Texts.{AreTexts};
 use brd_base::{List, NoMemory};
 use brd_board::Board;
 use brd_names::{Names, put, put_called, put_count, put_named, put_number, put_signed};
-use brd_seen::{SaidCall, context_advice, error_name};
+use brd_seen::{SaidCall, error_name, refusal_advice};
 use brd_verdicts::{
     Accounts, Lock, LostRaises, Refused, Unit, Units, Wait, circular_wait, is_same,
 };
@@ -219,16 +219,13 @@ fn said(alloc: Global, kind: Refused) -> Result<Vec<u8>, NoMemory> {
         Some(name) => put(&mut what, name)?,
         None => put_signed(alloc, &mut what, kind.code)?,
     }
-    put_context(&mut what, kind)?;
+    put_advice(&mut what, kind)?;
     Ok(what)
 }
 
-/// Puts at the end where a call may not come from, and which one to make there, where it was refused for that.
-fn put_context(what: &mut Vec<u8>, kind: Refused) -> Result<(), NoMemory> {
-    if error_name(kind.code) != Some("E_CTX") {
-        return Ok(());
-    }
-    let Some(advice) = context_advice(kind.call.number) else {
+/// Puts at the end what is said of such a refusal, if something is.
+fn put_advice(what: &mut Vec<u8>, kind: Refused) -> Result<(), NoMemory> {
+    let Some(advice) = refusal_advice(kind.code, kind.call.number) else {
         return Ok(());
     };
     put(what, " (")?;
