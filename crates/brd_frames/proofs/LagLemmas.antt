@@ -16,7 +16,6 @@ use Rattle.brd_kernel.specs.Services.{caller_on, serve_by}
 use Rattle.brd_sysgate.specs.Gate.{caller_of, read_of}
 use Rattle.brd_board.specs.declared.event.Event.{Event}
 use Rattle.brd_board.specs.declared.event.Event.TheVariants.{Step, Tick, Raise}
-use Rattle.brd_board.specs.declared.event.Report.TheVariants as report
 use Rattle.brd_board.specs.Board.{BoardState, Happened, happens}
 use Rattle.brd_frames.specs.Agents as agents
 use Rattle.brd_frames.specs.Agents.{Agent, agent_by, context_in, with_context_in, with_agent}
