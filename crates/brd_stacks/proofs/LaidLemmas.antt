@@ -1,8 +1,8 @@
 -- The stacks of tasks and handlers, one more.
-use Rattle.std.proofs.Common.{◌≡◌, ℕ, suc, ◌+◌, ◌-◌, ◌<◌, List, [], ◌∷◌, ◌++◌, length, drop, refl, sym, ap, ◌∙◌, append_assoc, arith}
+use Rattle.std.proofs.Common.{◌≡◌, ℕ, suc, ◌+◌, ◌-◌, ◌<◌, ◌≤◌, List, [], ◌∷◌, ◌++◌, length, drop, refl, sym, ap, ◌∙◌, append_assoc, arith}
 use Rattle.std.specs.Prelude.{Option, Some, None, slice_index_or}
 use Rattle.std.specs.List.{cons_option, filter_map, range_with_len}
-use Rattle.std.proofs.lemmas.List.{drop_more}
+use Rattle.std.proofs.lemmas.List.{append-nil, drop_more}
 use Rattle.brd_mem.specs.declared.image.Symbol.{Symbol}
 use Rattle.brd_config.specs.declared.objects.TaskConfig.{TaskConfig}
 use Rattle.brd_config.specs.declared.objects.HandlerConfig.{HandlerConfig}
@@ -48,3 +48,10 @@ next-line h so_far more whole i end below is known =
     let left : end - i ≡ suc (end - (i + 1)) = omega arith in
     ap (λ front. front ++ rest) is ∙ sym (put-on so_far rest (h i))
     ∙ sym (ap (λ n. so_far ++ filter_map h (range_with_len i n)) left) ∙ known
+
+-- behind the last line nothing is left
+pub none-left : (h : ℕ → Option Stack) (found whole : List Stack) (i end : ℕ) → end ≤ i →
+    found ++ filter_map h (range_with_len i (end - i)) ≡ whole → found ≡ whole
+none-left h found whole i end past known =
+    let none : end - i ≡ 0 = omega arith in
+    sym (ap (λ n. found ++ filter_map h (range_with_len i n)) none ∙ append-nil found) ∙ known
