@@ -103,9 +103,7 @@ impl Log {
             Call::SusTsk(id) => self.suspend(doer, doer.named(id)),
             Call::StaCyc(id) => self.start_cyclic(doer, id),
             Call::StaAlm(id, _) => self.start_alarm(doer, id),
-            Call::StpCyc(_)
-            | Call::StpAlm(_)
-            | Call::CanAct(_)
+            Call::CanAct(_)
             | Call::ExtTsk
             | Call::ChgPri(_, _)
             | Call::GetPri(_)
@@ -132,6 +130,8 @@ impl Log {
             | Call::RefMtx(_, _)
             | Call::RefMpf(_, _)
             | Call::RefMbx(_, _)
+            | Call::StpCyc(_)
+            | Call::StpAlm(_)
             | Call::RefCyc(_, _)
             | Call::RefAlm(_, _) => Ok(()),
         }
