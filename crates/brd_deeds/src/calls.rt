@@ -123,15 +123,15 @@ impl Log {
             | Call::Sns(_)
             | Call::MgetTid(_)
             | Call::MrotRdq(_, _)
-            | Call::RefTsk(_, _)
+            | Call::StpCyc(_)
+            | Call::StpAlm(_) => Ok(()),
+            Call::RefTsk(_, _)
             | Call::RefSem(_, _)
             | Call::RefFlg(_, _)
             | Call::RefDtq(_, _)
             | Call::RefMtx(_, _)
             | Call::RefMpf(_, _)
             | Call::RefMbx(_, _)
-            | Call::StpCyc(_)
-            | Call::StpAlm(_)
             | Call::RefCyc(_, _)
             | Call::RefAlm(_, _) => Ok(()),
         }
