@@ -597,6 +597,31 @@ position 24 of 40: .*
 at 7
 > monitor mark 10
 unknown; .*
+> monitor mark before_the_store
+the mark stands at 7
+> monitor goto 9
+at 9
+> monitor mark before_the_store
+the mark stands at 9
+> monitor mark other.1
+the mark stands at 9
+> monitor goto 3
+at 3
+> monitor goto before_the_store
+at 9
+> monitor goto nowhere
+no mark has this name; .*
+> monitor where
+position 9 of 40: .*
+> monitor marks
+mark 0 stands at 7
+.*
+mark before_the_store stands at 9
+mark other.1 stands at 9
+> monitor mark a_name_that_is_longer_than_31_bytes
+unknown; .*
+> monitor goto 7
+at 7
 > monitor back 1
 at 0
 > monitor goto 41

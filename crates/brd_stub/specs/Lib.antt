@@ -7,5 +7,6 @@ pub mod Reasons
 pub mod Halting
 pub mod Stepping
 pub mod Selecting
+pub mod Marks
 pub mod Moving
 pub mod Answers

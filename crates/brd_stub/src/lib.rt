@@ -8,6 +8,7 @@
 mod answer;
 mod halt;
 pub mod laws;
+mod marks;
 mod memory;
 mod monitor;
 mod moves;
