@@ -152,8 +152,16 @@ No more reverse-execution history\.
 > info threads
 \* 1 +Thread 1 "task 1" \(cpu 1, dormant\) +0x80000018 in .*
   2 +Thread 2 "task 2" \(cpu 2, runs\) .*
-> printf "%x %x\n", $cause, $epc
-80000010 80000014
+> printf "%x %x %x\n", $cause, $epc, $badvaddr
+80000010 80000014 80000001
+> print $status
+\$2 = <unavailable>
+> thread 2
+.*
+> print $badvaddr
+\$3 = <unavailable>
+> thread 1
+.*
 > info all-registers
  +zero +at .*
 .*80000010.*
@@ -633,6 +641,7 @@ goto N: goes to position N
 reset, restart: goes to position 0
 where: the position, and whose step comes
 mark N, back N: lets mark N of 0 to 9 stand here, goes to where it stands
+mark NAME, goto NAME: the same of a mark with a name; marks: where the marks stand
 threads tasks, threads processors: what threads are
 tasks: the tasks and their states
 objects: who waits for what

@@ -21,6 +21,7 @@ use Rattle.brd_stub.specs.declared.points.Point.{Point}
 use Rattle.brd_stub.specs.declared.halt.Reason.{Reason}
 use Rattle.brd_stub.specs.declared.halt.Told.TheVariants as told
 use Rattle.brd_stub.specs.Registers.{context_or_rest, registers_text, register_text}
+use Rattle.brd_stub.specs.BadAddress.{bad_address}
 use Rattle.brd_stub.specs.Reading.{IsMemoryText}
 use Rattle.brd_stub.specs.Marks.{mark_of, with_mark}
 use Rattle.brd_stub.specs.Points.{may_set, with_point, without_point}
@@ -36,10 +37,13 @@ use Rattle.brd_stub.specs.Halting.{halt_text, current_text, fitting, done_text, 
 -- What is replied to a request that reads a board: the registers of a thread, or memory. A write is refused.
 abbrev pub Reads : BoardState → Thread → Request → List ℕ → Type 0
 Reads board thread request.ReadRegisters reply =
-    reply ≡ registers_text board.memory.order (context_or_rest (context_at board thread)) (fault_at board thread)
+    reply
+    ≡ registers_text board.memory.order (context_or_rest (context_at board thread)) (fault_at board thread)
+    (bad_address board thread)
 Reads board thread (request.ReadRegister number) reply =
     reply
-    ≡ register_text board.memory.order (context_or_rest (context_at board thread)) (fault_at board thread) number
+    ≡ register_text board.memory.order (context_or_rest (context_at board thread)) (fault_at board thread)
+    (bad_address board thread) number
 Reads board thread (request.ReadMemory address length) reply = IsMemoryText board.memory address length reply
 Reads board thread request.Write reply = reply ≡ codes "E01"
 Reads board thread other reply = Unit {0}

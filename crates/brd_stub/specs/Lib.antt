@@ -1,6 +1,7 @@
 pub mod Registers
 pub mod Threads
 pub mod Reading
+pub mod BadAddress
 pub mod Points
 pub mod Hits
 pub mod Reasons

@@ -6,6 +6,7 @@
 #![tactic(auto)]
 
 mod answer;
+mod exceptions;
 mod halt;
 pub mod laws;
 mod marks;
