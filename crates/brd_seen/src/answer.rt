@@ -36,6 +36,8 @@ pub fn context_advice(number: u32) -> Option<&'static str> {
         24 => "not from a handler, which calls isig_sem, nor with the CPU locked",
         28 => "not from a handler, which calls iset_flg, nor with the CPU locked",
         86 => "not from a handler, which calls isnd_mbx, nor with the CPU locked",
+        95 => "not from a handler, which calls ista_alm, nor with the CPU locked",
+        97 => "not from a handler, which calls istp_alm, nor with the CPU locked",
         34 => "not from a handler, which calls ipsnd_dtq, nor with the CPU locked",
         36 => "not from a handler, which calls ifsnd_dtq, nor with the CPU locked",
         3 => "not from a handler, which ends by ret_int",
@@ -65,7 +67,11 @@ pub fn context_advice(number: u32) -> Option<&'static str> {
         | 85
         | 89
         | 91
-        | 92 => { "not from a handler, nor with the CPU locked" }
+        | 92
+        | 93
+        | 94
+        | 99
+        | 100 => { "not from a handler, nor with the CPU locked" }
         15 => "not from a handler, nor with a spin lock held",
         14 | 41 | 62 => "not from a handler",
         48 => "from a handler alone: a task calls act_tsk",
@@ -80,6 +86,8 @@ pub fn context_advice(number: u32) -> Option<&'static str> {
         57 => "from a handler alone: a task calls mact_tsk",
         58 => "from a handler alone: a task ends by ext_tsk",
         87 => "from a handler alone: a task calls snd_mbx",
+        96 => "from a handler alone: a task calls sta_alm",
+        98 => "from a handler alone: a task calls stp_alm",
         _ => return None,
     };
     Some(advice)

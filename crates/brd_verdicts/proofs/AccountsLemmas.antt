@@ -1,13 +1,13 @@
 -- What is counted of a run, while a board plays on.
 use Rattle.std.proofs.Common.{◌≡◌, inl, inr, ℕ, zero, suc, ◌+◌, ◌-◌, ◌<◌, ◌≤◌, ◌^◌, List, [], ◌∷◌, ◌++◌, length, length-take, take, drop, map, replicate, refl, sym, ap, subst, ◌∙◌, arith}
-use Rattle.std.specs.Prelude.{Bool, true, false, ◌==◌, min, if◌then◌else◌, is_some, slice_index_or, slice_set, unwrap_or, Option, None, Some, Result, Ok, Err, OnOk}
+use Rattle.std.specs.Prelude.{Bool, true, false, ◌==◌, ◌&&◌, nat_lt, min, if◌then◌else◌, is_some, slice_index_or, slice_set, unwrap_or, Option, None, Some, Result, Ok, Err, OnOk}
 use Rattle.std.specs.List.{cons_option}
-use Rattle.std.proofs.lemmas.Bool.{cond-true, cond-false, eq-eqb, ne_eqb, false≢true}
+use Rattle.std.proofs.lemmas.Bool.{and_parts, cond-true, cond-false, eq-eqb, ne_eqb, false≢true}
 use Rattle.std.proofs.Math.Seq.{take-add}
 use Rattle.brd_exec.specs.State.{State}
 use Rattle.brd_isa.specs.declared.instruction.Insn.{Insn}
 use Rattle.brd_kernel.specs.declared.processor.InterruptLine.{InterruptLine}
-use Rattle.brd_kernel.specs.Kernel.{line_at, quiet, with_pending}
+use Rattle.brd_kernel.specs.Kernel.{line_at, can_be_raised, quiet, with_pending}
 use Rattle.brd_board.specs.Batch.{AllRun}
 use Rattle.brd_board.specs.declared.event.Event.{Event}
 use Rattle.brd_board.specs.declared.event.Event.TheVariants.{Step, Tick, Raise}
@@ -226,9 +226,9 @@ seen-by false false b line = refl
 
 seen-raise : (b : BoardState) (line : ℕ) →
     (happening_of b (Raise line)).what
-    ≡ raise_seen b.kernel.off (is_some (line_at b.kernel line).handler) (line_at b.kernel line).pending line
+    ≡ raise_seen b.kernel.off (can_be_raised b.kernel line) (line_at b.kernel line).pending line
 unfolding happens
-seen-raise b line = seen-by b.kernel.off (is_some (line_at b.kernel line).handler) b line
+seen-raise b line = seen-by b.kernel.off (can_be_raised b.kernel line) b line
 
 set-there : (lines : List InterruptLine) (n : ℕ) (line : InterruptLine) →
     is_some (slice_index_or lines n (quiet None)).handler ≡ true →
@@ -240,29 +240,29 @@ set-there (one ∷ lines) (suc n) line handled = set-there lines n line handled
 -- the board after a raise: on or off as before, and the line has a handler as before, and is pending if one was raised
 record Raised (b next : BoardState) (line : ℕ) : Type 0 where
   off : next.kernel.off ≡ b.kernel.off
-  handled : is_some (line_at next.kernel line).handler ≡ is_some (line_at b.kernel line).handler
+  handled : can_be_raised next.kernel line ≡ can_be_raised b.kernel line
   waits :
-      b.kernel.off ≡ false → is_some (line_at b.kernel line).handler ≡ true →
+      b.kernel.off ≡ false → can_be_raised b.kernel line ≡ true →
       (line_at next.kernel line).pending ≡ true
 
 raised-by : (off handled : Bool) (b : BoardState) (line : ℕ) → b.kernel.off ≡ off →
-    is_some (line_at b.kernel line).handler ≡ handled → Raised b (raise_done off handled b line).board line
+    can_be_raised b.kernel line ≡ handled → Raised b (raise_done off handled b line).board line
 raised-by true handled b line off some =
     record { off = refl; handled = refl; waits = λ on _. absurd (false≢true (sym on ∙ off)) }
 raised-by false false b line on none =
     record { off = refl; handled = refl; waits = λ _ some. absurd (false≢true (sym none ∙ some)) }
 raised-by false true b line on some =
     let there : line_at (with_pending b.kernel line) line ≡ pending (line_at b.kernel line) =
-    set-there b.kernel.lines line (pending (line_at b.kernel line)) some in
+    set-there b.kernel.lines line (pending (line_at b.kernel line)) (and_parts (nat_lt line 32) (is_some (line_at b.kernel line).handler) some).1 in
     record {
       off = refl;
-      handled = ap (λ (it : InterruptLine). is_some it.handler) there;
+      handled = ap (λ (it : InterruptLine). nat_lt line 32 && is_some it.handler) there;
       waits = λ _ _. ap (λ (it : InterruptLine). it.pending) there;
     }
 
 is-raised : (b : BoardState) (line : ℕ) → Raised b (happens b (Raise line)).board line
 unfolding happens
-is-raised b line = raised-by b.kernel.off (is_some (line_at b.kernel line).handler) b line refl refl
+is-raised b line = raised-by b.kernel.off (can_be_raised b.kernel line) b line refl refl
 
 -- what it is then
 abbrev again_what : What → What
@@ -284,10 +284,10 @@ raised-again b line =
     let next : BoardState = (happens b (Raise line)).board in
     let it = is-raised b line in
     let off = b.kernel.off in
-    let handled = is_some (line_at b.kernel line).handler in
+    let handled = can_be_raised b.kernel line in
     let waits = (line_at b.kernel line).pending in
     seen-raise next line
-    ∙ ap (λ (o : Bool). raise_seen o (is_some (line_at next.kernel line).handler) (line_at next.kernel line).pending line) it.off
+    ∙ ap (λ (o : Bool). raise_seen o (can_be_raised next.kernel line) (line_at next.kernel line).pending line) it.off
     ∙ ap (λ (h : Bool). raise_seen off h (line_at next.kernel line).pending line) it.handled
     ∙ seen-again off handled waits (line_at next.kernel line).pending line it.waits
     ∙ ap again_what (sym (seen-raise b line))
