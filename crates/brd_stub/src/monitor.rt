@@ -18,7 +18,8 @@ const HELP: &[u8] =
     mark N, back N: lets mark N of 0 to 9 stand here, goes to where it stands\n\
     mark NAME, goto NAME: the same of a mark with a name; marks: where the marks stand\n\
     threads tasks, threads processors: what threads are\ntasks: the tasks and their states\n\
-    objects: who waits for what, which task has which mutex, when time handlers are due\nconsole: what was written to the console\nhelp: these commands\n";
+    objects: who waits for what, which task has which mutex, when time handlers are due\n\
+    console: what was written to the console\nhelp: these commands\n";
 
 impl Session {
     /// Answers a command that shows something.
