@@ -152,14 +152,38 @@ No more reverse-execution history\.
 > info threads
 \* 1 +Thread 1 "task 1" \(cpu 1, dormant\) +0x80000018 in .*
   2 +Thread 2 "task 2" \(cpu 2, runs\) .*
-> printf "%x %x\n", $cause, $epc
-80000010 80000014
+> printf "%x %x %x\n", $cause, $epc, $badvaddr
+80000010 80000014 80000001
+> print $status
+\$2 = <unavailable>
+> thread 2
+.*
+> print $badvaddr
+\$3 = <unavailable>
+> thread 1
+.*
 > info all-registers
  +zero +at .*
 .*80000010.*
  f0: .*
 .* epc *
 .*80000014.*
+END
+    session "a condition of a break, $order-endian" << 'END'
+> break *0x80000008 if $t1 == 1
+Breakpoint 1 at 0x80000008
+> continue
+Thread 1( ".*")? hit Breakpoint 1, 0x80000008 in .*
+> printf "t0=%d t1=%d\n", $t0, $t1
+t0=1 t1=1
+> continue
+Thread 1( ".*")? received signal SIGBUS, Bus error\.
+> reverse-continue
+Thread 1( ".*")? hit Breakpoint 1, 0x80000008 in .*
+> printf "t0=%d t1=%d\n", $t0, $t1
+t0=1 t1=1
+> reverse-continue
+No more reverse-execution history\.
 END
     # A task that an exception has ended, and beyond: its processor has nothing to execute.
     session "after an exception, $order-endian" << 'END'
@@ -261,6 +285,34 @@ t0=1
 END
 done
 
+# Suspended tasks, one of which waits too, keep their registers, and are stepped backward to their last instruction.
+for order in big little; do
+    elf=$work/suspended.$order
+    { echo "        .byteorder $order"; cat tests/data/gdb/suspended.s; } > "$work/suspended.s"
+    "$board" asm "$work/suspended.s" "$elf"
+    cfg=tests/data/gdb/suspended.cfg
+    ordered tests/data/gdb/suspended.journal
+    session "suspended tasks, $order-endian" << 'END'
+> continue
+The journal ends here: no processor executes anything\.
+> info threads
+\* 1 +Thread 1 "task 1" \(cpu 1, suspended, waits for a wake-up\) +0x80000008 in .*
+  2 +Thread 2 "task 2" \(cpu 1, suspended\) +0x80000008 in .*
+  3 +Thread 3 "task 3" \(cpu 1, dormant\) +0x80000034 in .*
+> thread 1
+.*
+> printf "v0=%d\n", $v0
+v0=16
+> reverse-stepi
+0x80000004 in .*
+> monitor where
+position 1 of 20: a step of processor 1 comes
+> info threads
+\* 1 +Thread 1 "task 1" \(cpu 1, runs\) +0x80000004 in .*
+  2 +Thread 2 "task 2" \(cpu 1, ready under task 1\) +0x80000008 in .*
+END
+done
+
 # Watches of stores, in a delay slot too, and of loads and accesses by the bytes that an instruction names.
 for order in big little; do
     elf=$work/parts.$order
@@ -303,6 +355,23 @@ New value = 9
 > delete
 > stepi
 0x8000002c in .*
+END
+    # Backward the condition sees the bytes as they are before the store.
+    session "a condition of a watch, $order-endian" << 'END'
+> watch *(int *)0x80000058 if *(int *)0x80000058 == 1
+Hardware watchpoint 1: .*
+> continue
+Old value = 2
+New value = 1
+0x8000002c in .*
+> continue
+No more reverse-execution history\.
+> reverse-continue
+Old value = 0
+New value = 1
+0x80000034 in .*
+> reverse-continue
+No more reverse-execution history\.
 END
     session "a watch of reads, $order-endian" << 'END'
 > rwatch *(char *)0x80000044
@@ -597,6 +666,31 @@ position 24 of 40: .*
 at 7
 > monitor mark 10
 unknown; .*
+> monitor mark before_the_store
+the mark stands at 7
+> monitor goto 9
+at 9
+> monitor mark before_the_store
+the mark stands at 9
+> monitor mark other.1
+the mark stands at 9
+> monitor goto 3
+at 3
+> monitor goto before_the_store
+at 9
+> monitor goto nowhere
+no mark has this name; .*
+> monitor where
+position 9 of 40: .*
+> monitor marks
+mark 0 stands at 7
+.*
+mark before_the_store stands at 9
+mark other.1 stands at 9
+> monitor mark a_name_that_is_longer_than_31_bytes
+unknown; .*
+> monitor goto 7
+at 7
 > monitor back 1
 at 0
 > monitor goto 41
@@ -608,9 +702,10 @@ goto N: goes to position N
 reset, restart: goes to position 0
 where: the position, and whose step comes
 mark N, back N: lets mark N of 0 to 9 stand here, goes to where it stands
+mark NAME, goto NAME: the same of a mark with a name; marks: where the marks stand
 threads tasks, threads processors: what threads are
 tasks: the tasks and their states
-objects: who waits for what
+objects: who waits for what, .*
 console: what was written to the console
 help: these commands
 trace N: .*

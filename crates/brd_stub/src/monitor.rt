@@ -16,6 +16,7 @@ use std::alloc::Global;
 const HELP: &[u8] =
     b"goto N: goes to position N\nreset, restart: goes to position 0\nwhere: the position, and whose step comes\n\
     mark N, back N: lets mark N of 0 to 9 stand here, goes to where it stands\n\
+    mark NAME, goto NAME: the same of a mark with a name; marks: where the marks stand\n\
     threads tasks, threads processors: what threads are\ntasks: the tasks and their states\n\
     objects: who waits for what, which task has which mutex, when time handlers are due\n\
     console: what was written to the console\nhelp: these commands\n";
@@ -41,9 +42,29 @@ impl Session {
             Monitor::Objects => objects(alloc, board),
             Monitor::Console => ended(alloc, board.console()),
             Monitor::Help => text(alloc, HELP),
+            Monitor::Marks => self.marks_text(alloc),
             Monitor::Summary | Monitor::Trace(_) => self.elsewhere_text(alloc),
             _ => text(alloc, b"unknown; `monitor help` says what there is\n"),
         }
+    }
+
+    /// Where the marks stand.
+    fn marks_text(&self, alloc: Global) -> Result<Vec<u8>, NoMemory> {
+        let mut out = Vec::new(alloc);
+        let mut number = 0u8;
+        for position in &self.marks {
+            let line = format!(in alloc; "mark {number} stands at {position}\n")?;
+            out.extend_from_slice(line.as_bytes())?;
+            number = number.wrapping_add(1);
+        }
+        for mark in self.named.as_slice() {
+            let bytes = mark.name.bytes.as_slice();
+            out.extend_from_slice(b"mark ")?;
+            out.extend_from_slice(front(bytes))?;
+            let line = format!(in alloc; " stands at {}\n", mark.position)?;
+            out.extend_from_slice(line.as_bytes())?;
+        }
+        Ok(out)
     }
 
     /// Which command shows what isn't shown here.
@@ -65,6 +86,18 @@ impl Session {
         show_event(alloc, &mut out, self.debugger.event_here())?;
         Ok(out)
     }
+}
+
+/// The bytes before the first zero.
+fn front(bytes: &[u8]) -> &[u8] {
+    let mut count: usize = 0;
+    for byte in bytes {
+        if *byte == 0 {
+            break;
+        }
+        count = count.saturating_add(1);
+    }
+    bytes.get(..count).unwrap_or(bytes)
 }
 
 /// These bytes, and a newline where they don't end in one.
