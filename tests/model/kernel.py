@@ -390,16 +390,16 @@ class Board:
         self.dispatch()
 
     def tick(self):
-        """Ends the waits whose time has come, by ascending ID, before any other task is chosen to run; then handlers are
-        due."""
+        """Ends the waits whose time has come, by ascending ID, before any other task is chosen to run. Then time handlers
+        are due."""
         self.now += 1
         for task in self.tasks.values():
             if task.due is not None and task.due <= self.now:
                 self.release(task, E_OK if task.waits_in is self.delayed else E_TMOUT)
         for line, timer in self.timers.items():
             if timer.due == self.now:
-                kind = "cyclic" if line % 2 == 0 else "alarm"
-                self.counts[f"time handler: {kind}" + (", lost" if line in self.pending else "")] += 1
+                kind = handler_name(line).split()[0]
+                self.counts[f"due: {kind} handler" + (", pending already" if line in self.pending else "")] += 1
                 self.pending.add(line)
                 timer.passed()
         self.dispatch()
@@ -410,10 +410,15 @@ class Board:
         lines = [f"events {events}", f"tick {self.now}", f"off {int(self.off)}"]
         for it in self.processors.values():
             task = f"task {it.running.id}" if it.running else "idle"
-            what = "stopped" if it.stopped else task if it.line is None else f"handler {it.line}"
+            what = "stopped" if it.stopped else task if it.line is None else handler_name(it.line)
             lines.append(f"cpu {it.number} {what}" + (f" pc {it.context().pc:08x}" if it.context() else ""))
         lines += [f"task {it.id} {it.state} pri {it.priority} cpu {it.processor}" for it in self.tasks.values()]
         return "\n".join(lines + [f"console {len(self.console)}", ""]).encode() + bytes(self.console) + b"\n"
+
+
+def handler_name(line):
+    """What the handler of a line is called: those of time by their IDs."""
+    return f"handler {line}" if line < 32 else f"{'alarm' if line % 2 else 'cyclic'} handler {(line - 30) // 2}"
 
 
 def stacks(setup):
