@@ -571,7 +571,7 @@ class Request:
 
     def rot_rdq(self):
         """Puts the first ready task of a priority after its equals, on the caller's or the handler's processor."""
-        priority = self.arguments[0] or self.caller.priority
+        priority = self.arguments[0] or self.caller.base
         for task in [task for task in self.processor.ready if task.priority == priority][:1]:
             self.board.move(task, priority)
 
@@ -722,7 +722,7 @@ class Request:
         return E_OK, running.id if running else 0
 
     def mrot_rdq(self):
-        priority, ready = self.arguments[0] or self.caller.priority, self.board.processors[self.arguments[1]].ready
+        priority, ready = self.arguments[0] or self.caller.base, self.board.processors[self.arguments[1]].ready
         for task in [task for task in ready if task.priority == priority][:1]:
             self.board.move(task, priority)
 

@@ -1,6 +1,6 @@
 -- No event changes how many bytes RAM has, or their order.
 use Rattle.std.proofs.Common.{◌≡◌, ℕ, List, [], ◌∷◌, refl, ◌∙◌}
-use Rattle.std.specs.Prelude.{Bool, true, false, Option, None, Some, if◌then◌else◌, nat_lt, is_some}
+use Rattle.std.specs.Prelude.{Bool, true, false, Option, None, Some, if◌then◌else◌, nat_lt}
 use Rattle.brd_mem.specs.Memory.{Memory, size_of}
 use Rattle.brd_exec.specs.State.{State}
 use Rattle.brd_exec.specs.Step.{Ran, ran}

@@ -1,9 +1,10 @@
--- What a configuration makes of an image: where each task starts and where its stack lies, which tasks are started, where
--- the handler of each interrupt line starts, where the blocks of each memory pool lie, and where each time handler starts
--- and when it is due. Where the configuration names a symbol of the image, its value is meant. The first fault in the order of the statements is answered; of one statement first all its symbols are looked
--- up, then its addresses are tested.
-use Rattle.std.specs.Prelude.{ℕ, ◌+◌, ◌-◌, ◌*◌, ◌%◌, ◌==◌, Bool, true, false, ◌&&◌, if◌then◌else◌, List, [], ◌∷◌, Option, None, Some, Result, Ok}
-use Rattle.std.specs.Prelude.{Err}
+-- What a configuration makes of an image: where each task starts and where its stack lies, which tasks are started,
+-- where the handler of each interrupt line starts, where the blocks of each memory pool lie, and where each time
+-- handler starts and when it is due. Where the configuration names a symbol of the image, its value is meant. The first
+-- fault in the order of the statements is answered; of one statement first all its symbols are looked up, then its
+-- addresses are tested.
+use Rattle.std.specs.Prelude.{ℕ, ◌+◌, ◌-◌, ◌*◌, ◌%◌, ◌==◌, Bool, true, false, ◌&&◌, if◌then◌else◌, List, [], ◌∷◌}
+use Rattle.std.specs.Prelude.{None, Some, Result, Ok, Err}
 use Rattle.std.specs.Int.RustNames.{bit_and}
 use Rattle.brd_base.specs.Space.{base}
 use Rattle.brd_text.specs.Faults as text

@@ -2,7 +2,7 @@
 
 ghost use Rattle.std.specs.Prelude.{◌≡◌, Decides, ◌≤◌, All, IfOk, IfSome, replicate, None};
 ghost use Rattle.brd_config.specs.View.{view};
-ghost use Rattle.brd_kernel.specs.Kernel.{executor_on, line_at};
+ghost use Rattle.brd_kernel.specs.Kernel.{executor_on, line_at, timer_due};
 ghost use Rattle.brd_kernel.specs.Always.{HasContext, HasPlace};
 ghost use Rattle.brd_tasks.specs.Ready.{IsProcessor, IsSetup};
 ghost use Rattle.brd_board.specs.Board.{
@@ -455,6 +455,14 @@ impl Board {
         ensures { result ≡ (line_at self.now.kernel line).pending }
     {
         self.kernel.is_pending(line)
+    }
+
+    /// The tick at which a time handler is due next, so that its line is pending from then on; None where it is stopped,
+    /// or isn't there. The cyclic handler of ID C has place 2C - 2, the alarm handler of ID A place 2A - 1, up to 127.
+    pub fn timer_due(&self, place: u8) -> Option<u64>
+        ensures { result ≡ timer_due self.now.kernel place }
+    {
+        self.kernel.timer_due(place)
     }
 
     /// The word that a processor's link is to, from an LL on; None where it has none.

@@ -1,7 +1,7 @@
 //! What a configuration makes of an image: its tasks with their stacks, which of them are started, and where handlers
 //! start.
 
-ghost use Rattle.std.specs.Prelude.{◌≡◌, ◌≤◌, ◌<◌, ◌+◌, All, IfOk};
+ghost use Rattle.std.specs.Prelude.{◌≡◌, ◌≤◌, ◌+◌, All, IfOk};
 ghost use Rattle.brd_mem.specs.Memory.{size_of};
 ghost use Rattle.brd_config.specs.Configuration.{IsTask};
 ghost use Rattle.brd_tasks.specs.Ready.{IsSetup};

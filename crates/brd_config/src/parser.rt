@@ -1,6 +1,6 @@
 //! A text to a configuration, statement by statement.
 
-ghost use Rattle.std.specs.Prelude.{◌≡◌, ◌≤◌, ◌<◌, false, IsTrue, IfOk, length, None, Ok};
+ghost use Rattle.std.specs.Prelude.{◌≡◌, ◌<◌, false, IsTrue, IfOk, length, None, Ok};
 ghost use Rattle.brd_text.specs.Turns.{flow_of};
 ghost use Rattle.brd_text.specs.Tokens.{seen, tokens_of};
 ghost use Rattle.brd_config.specs.Faults.{Gives};

@@ -1,4 +1,5 @@
 pub mod ReleaseLemmas
+pub mod RungLemmas
 pub mod CallLemmas
 pub mod TellingLemmas
 pub mod ToldLemmas

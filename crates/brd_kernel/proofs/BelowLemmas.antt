@@ -1,6 +1,6 @@
 -- What is done for the IDs below a number is done for one more.
-use Rattle.std.proofs.Common.{◌≡◌, ℕ, suc, ◌+◌, List, refl, ap, ◌∙◌, arith}
-use Rattle.std.specs.Prelude.{Bool, false, ◌&&◌, ◌||◌, Option, None, Some, replicate, slice_set}
+use Rattle.std.proofs.Common.{◌≡◌, ℕ, suc, ◌+◌, List, refl, ap, arith}
+use Rattle.std.specs.Prelude.{false, ◌&&◌, ◌||◌, None, replicate, slice_set}
 use Rattle.brd_mutexes.specs.Lifting.{priority_at}
 use Rattle.brd_tasks.specs.Tasks.{TaskTable, task_at}
 use Rattle.brd_objects.specs.Table.{object_at}

@@ -1,10 +1,9 @@
 -- After priorities were given each task has the one that it is to have.
-use Rattle.std.proofs.Common.{◌≡◌, ◌<◌, ◌≤◌, ℕ, zero, suc, ◌+◌, List, [], ◌∷◌, length, map, refl, sym, ap, subst, ◌∙◌, arith}
+use Rattle.std.proofs.Common.{◌≡◌, ◌<◌, ◌≤◌, ℕ, zero, suc, List, refl, sym, ap, subst, ◌∙◌, arith}
 use Rattle.std.specs.Prelude.{Bool, true, false, ◌==◌, nat_lt, if◌then◌else◌, Option, None, Some, slice_set, slice_index_or, Result, Ok, Err}
 use Rattle.std.specs.Option.{option_map}
 use Rattle.std.proofs.lemmas.Bool.{false≢true, true≢false}
 use Rattle.std.proofs.lemmas.Bool.Decides.{nat_tests}
-use Rattle.brd_config.specs.declared.objects.Protocol.{Protocol}
 use Rattle.brd_tasks.specs.declared.status.WaitReason.{WaitReason}
 use Rattle.brd_tasks.specs.declared.status.WaitReason.TheVariants as reason
 use Rattle.brd_tasks.specs.declared.status.WaitKind.{WaitKind}
@@ -16,9 +15,9 @@ use Rattle.brd_mutexes.specs.Lifting.{priority_at, AreLifted}
 use Rattle.brd_mutexes.specs.Passes.{lifted}
 use Rattle.brd_objects.specs.declared.mutex.Mutex.{Mutex}
 use Rattle.brd_objects.specs.Mutexes.{mutex_reordered}
-use Rattle.brd_objects.specs.Table.{Table, object_at, objects_changed}
+use Rattle.brd_objects.specs.Table.{object_at}
 use Rattle.brd_kernel.specs.Kernel.{KernelState, with_tasks, processor_at, spin_of}
-use Rattle.brd_kernel.specs.Waits.{changed_of, changed_for, moving, reason_in, reason_of, reordered_in, base_in, bases_below, ceiling_of, ceiling_in, ceilings_below, inheritor_in, inheritor_of, inheritor_for, inheritors_below, priorities_of, lifted_in, prioritized_by, prioritized_below, prioritized, all_timed_out, ticked_on, ticked, faulted_in, ended_by_fault}
+use Rattle.brd_kernel.specs.Waits.{changed_of, moving, reason_in, reason_of, reordered_in, base_in, bases_below, ceiling_of, ceiling_in, ceilings_below, inheritor_in, inheritor_for, inheritors_below, priorities_of, lifted_in, prioritized_by, prioritized_below, prioritized, all_timed_out, ticked_on, ticked, faulted_in, ended_by_fault}
 use Rattle.brd_time.specs.Time.{last_count, advanced, due_from}
 use Rattle.brd_mutexes.proofs.LiftedLemmas.{lifted-are}
 use Rattle.brd_kernel.specs.declared.processor.Spin.{Spin}

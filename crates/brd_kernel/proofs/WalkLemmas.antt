@@ -37,7 +37,7 @@ use Rattle.brd_kernel.specs.Answer.{e_ok, code_of}
 use Rattle.brd_timers.specs.declared.timer.Timer.{Timer}
 use Rattle.brd_timers.specs.Timers.{changed_at, started, asked_for, stopped}
 use Rattle.brd_kernel.specs.Kernel.{KernelState, with_tasks, with_processor, processor_at, spin_of, holding, letting_go, cyclic_place, alarm_place}
-use Rattle.brd_kernel.specs.Waits.{is_bad_timeout, due_by, due_after, with_wait, released_in, broken_off, with_released, quits_in, given_in, prioritized}
+use Rattle.brd_kernel.specs.Waits.{base_in, is_bad_timeout, due_by, due_after, with_wait, released_in, broken_off, with_released, quits_in, given_in, prioritized}
 use Rattle.brd_kernel.specs.Row.{served, asks_again, Served}
 use Rattle.brd_kernel.specs.Services as table
 use Rattle.brd_kernel.specs.Services.{named, is_asleep, is_bad_want, is_held_elsewhere, is_no_processor, or_waits, callers_priority, with_satisfied_released, handed_over, flag_got, queue_sent, queue_received, block_got, message_got, message_of, released_with_second, unmarked_on, handler_ended, is_taken, lock_taken_by, lock_taken, lock_given_by, is_no_id, is_there_taken, comes_again, serve_by, serve_of, caller_on}
@@ -389,7 +389,7 @@ walk Q k cpu caller law (call.MigTsk t to) may told =
 walk Q k cpu caller law call.GetPid may told = leaves-row Q (table.get_pid k cpu) (λ x passes. law.stays)
 walk Q k cpu caller law (call.RotRdq priority) may told =
     leaves-row Q (table.rot_rdq k cpu caller priority)
-    (λ p passes. law.rotates cpu (table.priority_or_callers priority (callers_priority k caller)) p passes.there)
+    (λ p passes. law.rotates cpu (table.priority_or_callers priority (base_in (task_at k.tasks caller))) p passes.there)
 walk Q k cpu caller law (call.IrotRdq priority) may told = leaves-row Q (table.irot_rdq k cpu priority) (λ p passes. law.rotates cpu priority p passes.there)
 walk Q k cpu caller law call.GetTid may told = leaves-row Q (table.get_tid k caller) (λ x passes. law.stays)
 walk Q k cpu caller law call.DisDsp may told =
@@ -451,7 +451,7 @@ walk Q k cpu caller law (call.Sns what) may told = leaves-row Q (table.sns k cpu
 walk Q k cpu caller law (call.MgetTid on) may told = leaves-row Q (table.mget_tid k on) (λ p passes. law.stays)
 walk Q k cpu caller law (call.MrotRdq priority on) may told =
     leaves-row Q (table.mrot_rdq k caller priority on)
-    (λ p passes. law.rotates on (table.priority_or_callers priority (callers_priority k caller)) p passes.there)
+    (λ p passes. law.rotates on (table.priority_or_callers priority (base_in (task_at k.tasks caller))) p passes.there)
 walk Q k cpu caller law (call.RefTsk t word) may told = leaves-row Q (table.ref_tsk k (named caller t) word) (λ task passes. law.stays)
 walk Q k cpu caller law (call.RefSem s word) may told = leaves-row Q (table.ref_sem k s word) (λ (s : Semaphore) passes. law.stays)
 walk Q k cpu caller law (call.RefFlg f word) may told = leaves-row Q (table.ref_flg k f word) (λ (f : Flag) passes. law.stays)

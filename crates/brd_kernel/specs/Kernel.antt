@@ -1,11 +1,12 @@
 -- The kernel: what it keeps, interrupts, spin locks, and what is seen of it.
-use Rattle.std.specs.Prelude.{◌≡◌, ℕ, ◌+◌, ◌-◌, ◌*◌, ◌==◌, nat_lt, Bool, true, false, not, ◌&&◌, ◌||◌, if◌then◌else◌}
+use Rattle.std.specs.Prelude.{ℕ, ◌+◌, ◌-◌, ◌*◌, ◌==◌, nat_lt, Bool, true, false, not, ◌&&◌, ◌||◌, if◌then◌else◌}
 use Rattle.std.specs.Prelude.{List, [], ◌∷◌, slice_index_or, slice_set, Option, None, Some, is_some}
 use Rattle.std.specs.Option.{option_map}
 use Rattle.brd_exec.specs.State.{State, opening}
 use Rattle.brd_tasks.specs.Tasks.{TaskTable, no_context, context_at, with_context}
 use Rattle.brd_time.specs.Time.{Time}
 use Rattle.brd_timers.specs.declared.timer.Timer.{Timer}
+use Rattle.brd_timers.specs.Timers.{timer_at}
 use Rattle.brd_objects.specs.declared.semaphore.Semaphore.{Semaphore}
 use Rattle.brd_objects.specs.declared.flag.Flag.{Flag}
 use Rattle.brd_objects.specs.declared.mutex.Mutex.{Mutex}
@@ -124,6 +125,15 @@ alarm_place id = 2 * id - 1
 abbrev pub timer_line : ℕ → ℕ
 timer_line place = place + 32
 
+-- the tick at which the time handler at a place is due next; None where it is stopped, or isn't there
+
+abbrev pub due_in : Option Timer → Option ℕ
+due_in None = None
+due_in (Some timer) = timer.due
+
+abbrev pub timer_due : KernelState → ℕ → Option ℕ
+timer_due k place = due_in (timer_at k.timers place)
+
 -- a line with nothing pending
 abbrev pub quiet : Option Handler → InterruptLine
 quiet handler = record { handler = handler; pending = false }
@@ -163,8 +173,8 @@ can_be_raised k line = nat_lt line 32 && is_some (line_at k line).handler
 abbrev pub raised : KernelState → ℕ → KernelState
 raised k line = if can_be_raised k line then with_pending k line else k
 
--- the context in which the handler of a line starts: at its address, all registers 0 but its argument in $a0 (at 0, with
--- the line there, where there is no handler)
+-- the context in which the handler of a line starts: at its address, all registers 0 but its argument in $a0 (at 0,
+-- with the line there, where there is no handler)
 abbrev pub entry_of : ℕ → Option Handler → State
 entry_of line None = opening 0 line 0
 entry_of line (Some handler) = opening handler.address handler.argument 0

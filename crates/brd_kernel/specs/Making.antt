@@ -1,6 +1,6 @@
 -- The kernel as it is made, before any task has been started.
-use Rattle.std.specs.Prelude.{ℕ, nat_le, Bool, true, false, ◌==◌, ◌&&◌, if◌then◌else◌, List, [], map, find, replicate, Option}
-use Rattle.std.specs.Prelude.{None, Some}
+use Rattle.std.specs.Prelude.{ℕ, nat_le, Bool, false, ◌==◌, ◌&&◌, if◌then◌else◌, List, [], map, find, replicate}
+use Rattle.std.specs.Prelude.{Option, None, Some}
 use Rattle.std.specs.Option.{option_map, option_and_then}
 use Rattle.std.specs.List.{range_with_len, list_any}
 use Rattle.brd_tasks.specs.Tasks.{made, no_context}

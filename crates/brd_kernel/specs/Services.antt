@@ -173,7 +173,7 @@ is_asleep status = is_sleep (waiting_of status)
 unfoldable pub priority_or_initial : ℕ → Task → ℕ
 priority_or_initial priority task = if priority == 0 then task.setup.priority else priority
 
--- 0 means the priority of the caller
+-- 0 means the base priority of the caller
 unfoldable pub priority_or_callers : ℕ → ℕ → ℕ
 priority_or_callers priority callers = if priority == 0 then callers else priority
 
@@ -456,12 +456,12 @@ mig_tsk k cpu id to = record (on_task k id) {
 abbrev pub get_pid : KernelState → ℕ → Row (Unit {0})
 get_pid k cpu = record (on_nothing k) { does = λ x. ok_with k cpu }
 
--- 10 rot_rdq priority. Refuses: PAR not 0 to 16. On the caller's processor, the first ready task of that priority goes
--- after its equals.
+-- 10 rot_rdq priority. Refuses: PAR not 0 to 16. On the caller's processor, the first ready task of that priority,
+-- where 0 means the base priority of the caller, goes after its equals.
 abbrev pub rot_rdq : KernelState → ℕ → ℕ → ℕ → Row Processor
 rot_rdq k cpu caller priority = record (on_own_processor k cpu) {
   bad_par = nat_lt 16 priority;
-  does = λ p. ok (with_tasks k (turned k.tasks cpu (priority_or_callers priority (callers_priority k caller))));
+  does = λ p. ok (with_tasks k (turned k.tasks cpu (priority_or_callers priority (base_in (task_at k.tasks caller)))));
 }
 
 -- 11 get_tid, 56 iget_tid. Second result: the running task (for get_tid that is the caller), 0 where none runs.
@@ -713,7 +713,7 @@ mget_tid k on = record (on_own_processor k on) {
 abbrev pub mrot_rdq : KernelState → ℕ → ℕ → ℕ → Row Processor
 mrot_rdq k caller priority on = record (on_own_processor k on) {
   bad_par = nat_lt 16 priority || is_no_processor k on;
-  does = λ p. ok (with_tasks k (turned k.tasks on (priority_or_callers priority (callers_priority k caller))));
+  does = λ p. ok (with_tasks k (turned k.tasks on (priority_or_callers priority (base_in (task_at k.tasks caller)))));
 }
 
 -- 73 ref_tsk T0, word. Refuses: PAR above 8. Second result: that word of T_RTSK.

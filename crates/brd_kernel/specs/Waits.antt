@@ -33,7 +33,8 @@ use Rattle.brd_objects.specs.Mailboxes.{MailboxState, mailbox_left, mailbox_reor
 use Rattle.brd_kernel.specs.declared.processor.Processor.{Processor}
 use Rattle.brd_kernel.specs.declared.call.Ercd.TheVariants.{Tmout}
 use Rattle.brd_kernel.specs.Answer.{e_ok, code_of}
-use Rattle.brd_kernel.specs.Kernel.{KernelState, with_tasks, with_processor, processor_at, unmarked, line_at, timer_line}
+use Rattle.brd_kernel.specs.Kernel.{KernelState, with_tasks, with_processor, processor_at, unmarked, line_at}
+use Rattle.brd_kernel.specs.Kernel.{timer_line}
 
 -- How long a call may wait, as its caller says it: a signed number of ticks, of which -1 (TMO_FEVR) is without an end
 -- and 0 (TMO_POL) not at all.

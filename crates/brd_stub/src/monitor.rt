@@ -1,12 +1,12 @@
 //! What the user asks for with GDB's command `monitor`.
 
-ghost use Rattle.std.specs.Prelude.{◌≤◌, length, IfOk};
+ghost use Rattle.std.specs.Prelude.{◌≤◌, ◌<◌, length, IfOk};
 ghost use Rattle.brd_gdb.specs.Receiving.{packet_size};
 
 use crate::answer::Answer;
 use crate::session::Session;
 use crate::telling::text;
-use crate::thread_texts::{show_due, show_reason, show_standing, show_task};
+use crate::thread_texts::{show_due, show_handler, show_reason, show_standing, show_task};
 use brd_base::NoMemory;
 use brd_board::{Board, Event};
 use brd_gdb::Monitor;
@@ -17,7 +17,7 @@ const HELP: &[u8] =
     b"goto N: goes to position N\nreset, restart: goes to position 0\nwhere: the position, and whose step comes\n\
     mark N, back N: lets mark N of 0 to 9 stand here, goes to where it stands\n\
     threads tasks, threads processors: what threads are\ntasks: the tasks and their states\n\
-    objects: who waits for what\nconsole: what was written to the console\nhelp: these commands\n";
+    objects: who waits for what, which task has which mutex, when time handlers are due\nconsole: what was written to the console\nhelp: these commands\n";
 
 impl Session {
     /// Answers a command that shows something.
@@ -37,7 +37,7 @@ impl Session {
         match command {
             Monitor::Where => self.position_text(alloc),
             Monitor::Tasks => tasks(alloc, board),
-            Monitor::Objects => waits(alloc, board),
+            Monitor::Objects => objects(alloc, board),
             Monitor::Console => ended(alloc, board.console()),
             Monitor::Help => text(alloc, HELP),
             Monitor::Summary | Monitor::Trace(_) => self.elsewhere_text(alloc),
@@ -118,6 +118,46 @@ fn show_processor(
     out.extend_from_slice(front.as_bytes())?;
     show_standing(alloc, out, standing)?;
     out.push(b'\n')?;
+    Ok(())
+}
+
+/// Which task waits for what, which has which mutex, and when time handlers are due.
+fn objects(alloc: Global, board: &Board) -> Result<Vec<u8>, NoMemory> {
+    let mut out = waits(alloc, board)?;
+    for mutex in 1..256u16 {
+        show_owner(alloc, &mut out, board, mutex)?;
+    }
+    for place in 0..128u8 {
+        show_handler_due(alloc, &mut out, board, place)?;
+    }
+    Ok(out)
+}
+
+/// Puts at the end which task has a mutex, if one has it.
+fn show_owner(alloc: Global, out: &mut Vec<u8>, board: &Board, mutex: u16) -> Result<(), NoMemory> {
+    let Some(task) = board.mutex_owner(mutex) else {
+        return Ok(());
+    };
+    let line = format!(in alloc; "task {task} has mutex {mutex}\n")?;
+    out.extend_from_slice(line.as_bytes())?;
+    Ok(())
+}
+
+/// Puts at the end when the time handler at a place is due, if it is.
+fn show_handler_due(
+    alloc: Global,
+    out: &mut Vec<u8>,
+    board: &Board,
+    place: u8,
+) -> Result<(), NoMemory>
+    requires { place < 128 }
+{
+    let Some(tick) = board.timer_due(place) else {
+        return Ok(());
+    };
+    show_handler(alloc, out, place + 32)?;
+    let rest = format!(in alloc; " is due at tick {tick}\n")?;
+    out.extend_from_slice(rest.as_bytes())?;
     Ok(())
 }
 

@@ -1,7 +1,6 @@
 //! What is true of the times of time handlers.
 
-ghost use Rattle.std.specs.Prelude.{◌≡◌, ◌<◌, ◌≤◌, ◌↔◌, ◌+◌, ℕ, true, false, Option, None, Some};
-ghost use Rattle.brd_timers.specs.declared.course.Course.{Course as CourseOf};
+ghost use Rattle.std.specs.Prelude.{◌≡◌, ◌<◌, ◌↔◌, ◌+◌, ℕ, true, false, Option, None, Some};
 ghost use Rattle.brd_timers.specs.declared.course.Course.TheVariants.{Cyclic, Alarm};
 ghost use Rattle.brd_timers.specs.declared.course.Cycle.{Cycle as CycleOf};
 ghost use Rattle.brd_timers.specs.declared.timer.Timer.{Timer as TimerOf};
@@ -26,8 +25,8 @@ pub fn the_next_time_is_the_first_after_now()
 
 /// A cyclic handler that is neither started nor stopped meanwhile is due at its first time and at each further multiple
 /// of its period after that, and at no other tick. If it works from boot on, its first time comes when its phase has
-/// passed. If it is started, that is when a period has passed; but with TA_PHS its times are those that are counted from
-/// boot, and it is due from the first of them on that comes after the start.
+/// passed. If it is started, that is when a period has passed; but with TA_PHS its times are those that are counted
+/// from boot, and it is due from the first of them on that comes after the start.
 pub fn a_cyclic_handler_is_due_at_its_times()
     ensures times { (cycle : CycleOf) (now first ticks : ℕ) → 0 < cycle.period → now < first →
         (is_due (now + ticks + 1) (after_ticks now (timer_with (Cyclic cycle) (Some first)) ticks) ≡ true)

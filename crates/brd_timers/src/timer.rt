@@ -3,7 +3,6 @@
 ghost use Rattle.std.specs.Prelude.{◌≡◌, ◌≤◌, ◌^◌, true};
 ghost use Rattle.brd_timers.specs.Timers.{
   last_count,
-  due_after,
   first_time,
   next_time,
   made,

@@ -61,7 +61,7 @@ fn put_summary(
         instructions: false,
         touching: false,
         shown: false,
-        lines: [0; 32],
+        lines: [0; 160],
     };
     let first = boot.try_copy()?;
     let mut tracer = Tracer::new(alloc, boot, options)?;

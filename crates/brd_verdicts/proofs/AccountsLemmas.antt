@@ -23,6 +23,7 @@ use Rattle.brd_journal.proofs.StillLemmas.{happens-leaves, raise-told, rests}
 use Rattle.brd_happening.specs.declared.before.Before.{Before}
 use Rattle.brd_happening.specs.declared.found.Found.{Found}
 use Rattle.brd_happening.specs.declared.release.Release.{Release}
+use Rattle.brd_happening.specs.declared.rung.Rung.{Rung}
 use Rattle.brd_happening.specs.declared.happening.{What.What, Why.Why, Happening.Happening}
 use Rattle.brd_happening.specs.declared.happening.What.TheVariants as what
 use Rattle.brd_happening.specs.declared.happening.Why.TheVariants as why
@@ -33,7 +34,7 @@ use Rattle.brd_verdicts.specs.declared.answers.Answered.{Answered}
 use Rattle.brd_verdicts.specs.declared.losses.LostRaises.{LostRaises}
 use Rattle.brd_verdicts.specs.Answers.{answers_in, begun_after, late_answer, own_answer}
 use Rattle.brd_verdicts.specs.Refusals.{grown}
-use Rattle.brd_verdicts.specs.Losses.{lost_if, lost_in, lost_with, more_lost}
+use Rattle.brd_verdicts.specs.Losses.{all_rung, lost_by, lost_if, lost_in, lost_with, more_lost}
 use Rattle.brd_verdicts.specs.Accounts.{accounts_from, accounts_of, accounts_of_run, all_answered, nothing}
 use Rattle.brd_verdicts.specs.Again.{again, lost_after, lost_again}
 
@@ -43,6 +44,7 @@ record Silent (it : Happening) : Type 0 where
   own : own_answer it it.what ≡ None
   begun : (begun : List ℕ) → begun_after it it.what begun ≡ begun
   released : it.released ≡ []
+  rung : it.rung ≡ []
 
 none-answered : (begun : List ℕ) (it : Happening) → Silent it → answers_in begun it ≡ []
 none-answered begun it silent =
@@ -55,10 +57,12 @@ only-lost : (position : ℕ) (it : Happening) (accounts : Accounts) → Silent i
 only-lost position it accounts silent =
     ap (λ (answers : List Answered).
     let after : Accounts = all_answered position answers accounts in
-    record after { begun = begun_after it it.what after.begun; lost = lost_if (lost_in position it.what) after.lost })
+    record after { begun = begun_after it it.what after.begun; lost = lost_by position it after.lost })
     (none-answered accounts.begun it silent)
-    ∙ ap (λ (begun : List ℕ).
-    record accounts { begun = begun; lost = lost_if (lost_in position it.what) accounts.lost }) (silent.begun accounts.begun)
+    ∙ ap (λ (begun : List ℕ). record accounts { begun = begun; lost = lost_by position it accounts.lost })
+    (silent.begun accounts.begun)
+    ∙ ap (λ (rung : List Rung).
+    record accounts { lost = all_rung position rung (lost_if (lost_in position it.what) accounts.lost) }) silent.rung
 
 -- nothing is
 none-counted : (position : ℕ) (it : Happening) (accounts : Accounts) → Silent it → lost_in position it.what ≡ None →
@@ -81,20 +85,21 @@ no_such-begun it (Raise line) begun = refl
 
 quiet-silent : (before : Before) (told : Report) (b : BoardState) → did_nothing told ≡ true →
     Silent (happening_from before told b)
-quiet-silent before report.Off b is = record { own = refl; begun = λ begun. refl; released = refl }
+quiet-silent before report.Off b is = record { own = refl; begun = λ begun. refl; released = refl; rung = refl }
 quiet-silent before report.NoSuch b is = record {
   own = no_such-own (happening_from before report.NoSuch b) before.event;
   begun = no_such-begun (happening_from before report.NoSuch b) before.event;
   released = refl;
+  rung = refl;
 }
-quiet-silent before report.Stopped b is = record { own = refl; begun = λ begun. refl; released = refl }
+quiet-silent before report.Stopped b is = record { own = refl; begun = λ begun. refl; released = refl; rung = refl }
 quiet-silent before (report.Accepted line) b is = absurd (false≢true is)
 quiet-silent before (report.Ran address) b is = absurd (false≢true is)
 quiet-silent before (report.Called address) b is = absurd (false≢true is)
 quiet-silent before (report.Faulted address) b is = absurd (false≢true is)
-quiet-silent before report.Idle b is = record { own = refl; begun = λ begun. refl; released = refl }
+quiet-silent before report.Idle b is = record { own = refl; begun = λ begun. refl; released = refl; rung = refl }
 quiet-silent before report.Ticked b is = absurd (false≢true is)
-quiet-silent before report.TimeOver b is = record { own = refl; begun = λ begun. refl; released = refl }
+quiet-silent before report.TimeOver b is = record { own = refl; begun = λ begun. refl; released = refl; rung = refl }
 quiet-silent before report.Raised b is = absurd (false≢true is)
 
 -- no raise is lost in it
@@ -161,6 +166,7 @@ ran-none position address before None b accounts is =
       own = ap (own_answer it) none;
       begun = λ begun. ap (λ (w : What). begun_after it w begun) none;
       released = refl;
+      rung = refl;
     }) (ap (lost_in position) none)
 ran-none position address before (Some found) b accounts is =
     let it : Happening = happening_from before (report.Ran address) b in
@@ -170,6 +176,7 @@ ran-none position address before (Some found) b accounts is =
       own = ap (own_answer it) done ∙ done-own it found.insn _ found b;
       begun = λ begun. ap (λ (w : What). begun_after it w begun) done ∙ done-begun it found.insn _ found b begun;
       released = refl;
+      rung = refl;
     }) (ap (lost_in position) done ∙ done-lost position found.insn _ found b)
 
 ran-step : (position cpu address : ℕ) (b : BoardState) (told : Report) (accounts : Accounts) →
@@ -312,6 +319,7 @@ raise-silent b line =
       own = was-own (happening_from before report.Raised next) before.pending line;
       begun = was-begun (happening_from before report.Raised next) before.pending line;
       released = refl;
+      rung = refl;
     })
     (quiet-silent before report.NoSuch next refl)
 

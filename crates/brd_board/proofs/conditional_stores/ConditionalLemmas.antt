@@ -1,6 +1,6 @@
 -- Each event is the run of its moves. So an SC finds a link exactly where its processor has a reservation.
 use Rattle.std.proofs.Common.{◌≡◌, ◌⊎◌, inl, inr, ℕ, zero, suc, List, [], ◌∷◌, refl, sym, ap, subst, subst₂, ◌∙◌}
-use Rattle.std.specs.Prelude.{Bool, true, false, ◌==◌, nat_lt, if◌then◌else◌, MatchBool, Option, None, Some, is_some, unwrap_or, Result, Ok, Err, is_ok, slice_index_or, slice_set}
+use Rattle.std.specs.Prelude.{Bool, true, false, ◌==◌, nat_lt, if◌then◌else◌, MatchBool, Option, None, Some, unwrap_or, Result, Ok, Err, is_ok, slice_index_or, slice_set}
 use Rattle.std.specs.Option.{option_map}
 use Rattle.std.proofs.lemmas.Bool.{false≢true}
 use Rattle.brd_isa.specs.declared.instruction.Insn.{Insn}

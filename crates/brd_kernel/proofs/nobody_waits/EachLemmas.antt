@@ -22,7 +22,7 @@ use Rattle.brd_kernel.specs.Answer.{e_ok}
 use Rattle.brd_kernel.specs.Kernel.{KernelState, with_tasks, with_processor, processor_at, unmarked}
 use Rattle.brd_kernel.specs.Waits.{Change, changed_of, changed_for, leaving, moving, can_wait, with_wait, released_in, reason_of, unlisted_from, unlisted, broken_off, ended_in, reordered_in, answer_by, timed_out, all_timed_out, ticked_on, faulted_task, faulted_in, ended_by_fault, with_released, given_in, all_given_in, quits_in, prioritized}
 use Rattle.brd_kernel.specs.Services as table
-use Rattle.brd_kernel.specs.Services.{is_sleep, or_waits, with_all_released_in, with_satisfied_of, handed_over}
+use Rattle.brd_kernel.specs.Services.{is_sleep, with_all_released_in, with_satisfied_of, handed_over}
 use Rattle.brd_kernel.specs.Waiting.{SemaphoreIsKept, FlagIsKept, QueueIsKept, EachIsKept, MutexIsKept, PoolIsKept, MailboxIsKept}
 use Rattle.brd_kernel.proofs.who_waits.ListLemmas.{either}
 use Rattle.brd_kernel.proofs.RingLemmas.{Outlasts, rung-keeps}

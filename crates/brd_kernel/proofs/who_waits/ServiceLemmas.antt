@@ -21,9 +21,9 @@ use Rattle.brd_kernel.specs.declared.processor.Executor.{Executor}
 use Rattle.brd_kernel.specs.declared.processor.Executor.TheVariants as executor
 use Rattle.brd_kernel.specs.Dispatch.{dispatched}
 use Rattle.brd_kernel.specs.Kernel.{KernelState, with_tasks, processor_at, unmarked, with_context_of, with_pending, handles, accepted_line}
-use Rattle.brd_kernel.specs.Waits.{reason_of, answer_by, timed_out, all_timed_out, prioritized, ticked_on, ticked, faulted_task, faulted_in, ended_by_fault, with_released, all_given_in, quits_in}
+use Rattle.brd_kernel.specs.Waits.{reason_of, answer_by, timed_out, all_timed_out, prioritized, ticked_on, ticked, faulted_task, faulted_in, ended_by_fault, all_given_in, quits_in}
 use Rattle.brd_kernel.specs.Services as table
-use Rattle.brd_kernel.specs.Services.{named, unmarked_on, handler_ended, serve_by, serve_of, caller_on, or_waits, callers_priority, with_all_released_in, with_satisfied_of, handed_over, flag_got, queue_sent, queue_received}
+use Rattle.brd_kernel.specs.Services.{unmarked_on, handler_ended, serve_of, caller_on, callers_priority}
 use Rattle.brd_kernel.specs.Waiting.{standing_for, WaitsAreKept}
 use Rattle.brd_kernel.proofs.who_waits.ListLemmas.{either}
 use Rattle.brd_kernel.proofs.RingLemmas.{Outlasts, rung-keeps}

@@ -81,7 +81,7 @@ impl Kernel {
         }
         let on = self.processor_in_range(on)?;
         let _ = self.own_processor(on)?;
-        let priority = priority_or_callers(priority as u8, self.priority(caller));
+        let priority = priority_or_callers(priority as u8, self.base(caller));
         self.common.tasks.rotate(on, priority);
         Ok(OK)
     }

@@ -1,7 +1,7 @@
 //! Cyclic handlers and alarm handlers: the service calls, each as its row of the table says, and what a tick does.
 
 ghost use Rattle.std.specs.Prelude.{◌≡◌, ◌<◌, true};
-ghost use Rattle.brd_kernel.specs.Kernel.{cyclic_place, alarm_place};
+ghost use Rattle.brd_kernel.specs.Kernel.{cyclic_place, alarm_place, timer_due};
 ghost use Rattle.brd_kernel.specs.Row.{Serves, served};
 ghost use Rattle.brd_kernel.specs.Services as table;
 ghost use Rattle.brd_kernel.specs.Services.{timer_words};
@@ -91,6 +91,16 @@ impl Kernel {
         };
         let words = timer_words(self.common.time.now(), timer);
         Ok(Reply::Answer(0, Some(words[word as usize])))
+    }
+
+    /// The tick at which the time handler at a place is due next; None where it is stopped, or isn't there.
+    pub fn timer_due(&self, place: u8) -> Option<u64>
+        ensures { result ≡ timer_due self.now place }
+    {
+        match self.common.timers.timer(place as u16) {
+            Some(timer) => timer.due,
+            None => None,
+        }
     }
 
     /// The line of the time handler at a place is pending, if its time has come, and it goes on to its next time.

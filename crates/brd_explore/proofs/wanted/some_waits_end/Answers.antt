@@ -2,7 +2,7 @@ use Rattle.std.proofs.Common.{sym, ◌∙◌, arith}
 use Rattle.brd_board.specs.Board.{task_of}
 use Rattle.brd_explore.specs.Failures.{has_due}
 use Rattle.brd_explore.proofs.FailureLemmas.{some-none, some-more, some-found}
-use Rattle.brd_explore.proofs.wanted.some_are_due.Goals as goal
+use Rattle.brd_explore.proofs.wanted.some_waits_end.Goals as goal
 
 pub loop-id-init : goal.loop-id-init
 loop-id-init c = some-none (λ n. has_due (task_of c.args.board.now n))
