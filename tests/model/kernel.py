@@ -390,8 +390,8 @@ class Board:
         self.dispatch()
 
     def tick(self):
-        """Ends the waits whose time has come, by ascending ID, before any other task is chosen to run. Then time handlers
-        are due."""
+        """Ends the waits whose time has come, by ascending ID, before any other task is chosen to run; then time
+        handlers are due."""
         self.now += 1
         for task in self.tasks.values():
             if task.due is not None and task.due <= self.now:
@@ -410,7 +410,7 @@ class Board:
         lines = [f"events {events}", f"tick {self.now}", f"off {int(self.off)}"]
         for it in self.processors.values():
             task = f"task {it.running.id}" if it.running else "idle"
-            what = "stopped" if it.stopped else task if it.line is None else handler_name(it.line)
+            what = "stopped" if it.stopped else task if it.line is None else f"handler {it.line}"
             lines.append(f"cpu {it.number} {what}" + (f" pc {it.context().pc:08x}" if it.context() else ""))
         lines += [f"task {it.id} {it.state} pri {it.priority} cpu {it.processor}" for it in self.tasks.values()]
         return "\n".join(lines + [f"console {len(self.console)}", ""]).encode() + bytes(self.console) + b"\n"
