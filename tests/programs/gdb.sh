@@ -610,7 +610,7 @@ where: the position, and whose step comes
 mark N, back N: lets mark N of 0 to 9 stand here, goes to where it stands
 threads tasks, threads processors: what threads are
 tasks: the tasks and their states
-objects: who waits for what
+objects: who waits for what, which task has which mutex, when time handlers are due
 console: what was written to the console
 help: these commands
 trace N: .*
