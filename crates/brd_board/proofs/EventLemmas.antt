@@ -1,5 +1,5 @@
 -- One induction for every law of what holds of the kernel after every list of events from a boot.
-use Rattle.std.proofs.Common.{◌≡◌, ℕ, List, [], ◌∷◌, refl, ap, subst, ◌∙◌}
+use Rattle.std.proofs.Common.{◌≡◌, ℕ, List, [], ◌∷◌, ◌++◌, refl, ap, subst, ◌∙◌}
 use Rattle.std.proofs.lemmas.Bool.{false≢true}
 use Rattle.std.specs.Prelude.{Bool, true, false, Option, None, Some, Result, Ok, Err, unwrap_or, is_some, nat_lt, if◌then◌else◌, slice_index_or}
 use Rattle.brd_text.specs.Faults.{◌>>=◌}
@@ -28,7 +28,7 @@ use Rattle.brd_sysgate.specs.Gate.{called}
 use Rattle.brd_board.specs.declared.event.Event.{Event}
 use Rattle.brd_board.specs.declared.event.Event.TheVariants.{Step, Tick, Raise}
 use Rattle.brd_board.specs.declared.boot.BootFault.{BootFault}
-use Rattle.brd_board.specs.Setup.{setups_of, has_ta_act, started_at_boot, all_started}
+use Rattle.brd_board.specs.Setup.{setups_of, handlers_of, pools_of, cyclics_of, alarms_of, has_ta_act, started_at_boot, all_started}
 use Rattle.brd_board.specs.Boot.{booted_kernel, booted_board, boot}
 use Rattle.brd_board.specs.Board.{BoardState, Happened, with_executed, happens, happens_on, after, stepped_in, accepts_or_executes, executes_in, instruction_done}
 
@@ -153,7 +153,10 @@ booted-by P config (Ok m) (Ok s) (Ok l) (Ok p) (Ok c) (Ok a) begins = begins s (
 booted : (P : BoardState → Type 0) (image : Image) (config : Configuration) → Begins P config (setups_of config.ram image.symbols config.tasks) →
     IsBooted P (boot image config)
 unfolding boot
-booted P image config begins = booted-by P config _ (setups_of config.ram image.symbols config.tasks) _ _ _ _ begins
+booted P image config begins =
+    booted-by P config _ (setups_of config.ram image.symbols config.tasks) (handlers_of config.ram image.symbols config.handlers)
+    (pools_of config.ram image.symbols config.tasks config.pools) (cyclics_of config.ram image.symbols config.cyclics)
+    (alarms_of config.ram image.symbols config.alarms) begins
 
 -- what holds of each board that boot may make, holds of the one that it makes
 pub boot-begins : (P : BoardState → Type 0) (image : Image) (config : Configuration) (b : BoardState) →

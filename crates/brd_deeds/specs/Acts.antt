@@ -1,8 +1,8 @@
 -- What orders tasks and handlers, row by row of the table of docs/RACES.md: what is released into, and who acquires
 -- from it. A strand is who acts: a task, which keeps its strand wherever it runs and however often it starts, or the
 -- handler of an interrupt line. Which call does which of these, `Calls.antt` says.
-use Rattle.std.specs.Prelude.{◌+◌, ◌*◌, ◌/◌, ◌%◌, ◌^◌, ◌==◌, ℕ, zero, suc, Bool, true, false, if◌then◌else◌, [], ◌∷◌, bit_and}
-use Rattle.std.specs.Prelude.{Option, None, Some}
+use Rattle.std.specs.Prelude.{◌+◌, ◌*◌, ◌/◌, ◌%◌, ◌^◌, ◌==◌, ℕ, zero, suc, Bool, true, false}
+use Rattle.std.specs.Prelude.{if◌then◌else◌, [], ◌∷◌, bit_and, Option, None, Some}
 use Rattle.brd_tasks.specs.declared.task.TaskView.{TaskView}
 use Rattle.brd_board.specs.Board.{BoardState, task_of}
 use Rattle.brd_order.specs.declared.deed.Touch.{Touch}

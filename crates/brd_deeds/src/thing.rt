@@ -47,7 +47,8 @@ pub enum ThingKind {
 pub struct Thing {
     /// Its kind.
     pub kind: ThingKind,
-    /// Which of them: an ID, a strand (of a time handler too), a processor's number, or the address of a word, a block or a message.
+    /// Which of them: an ID, a strand (of a time handler too), a processor's number, or the address of a word, a block
+    /// or a message.
     pub id: u32,
     /// Which part of it: a bit or a place; of a block or a message its pool or mailbox; 0 where it has none.
     pub part: u16,

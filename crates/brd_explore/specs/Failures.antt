@@ -53,8 +53,8 @@ is_due b place = is_some (timer_due b.kernel place)
 abbrev pub some_are_due : BoardState → Bool
 some_are_due b = some_below 256 (λ id. has_due (task_of b id)) || some_below 128 (is_due b)
 
--- A deadlock: the board is on, a task waits, no wait ends by a tick, no time handler is due at one, and nobody goes. (An
--- interrupt line that is raised from outside could still end it.)
+-- A deadlock: the board is on, a task waits, no wait ends by a tick, no time handler is due at one, and nobody goes.
+-- (An interrupt line that is raised from outside could still end it.)
 abbrev pub is_stuck : BoardState → Bool
 is_stuck b = not b.kernel.off && some_below 256 (λ id. waits (task_of b id)) && not (some_are_due b) && nobody_goes b
 

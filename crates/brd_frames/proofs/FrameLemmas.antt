@@ -1,6 +1,6 @@
 -- An event does the same where the contexts of agents that it is apart from are other ones.
 use Rattle.std.proofs.Common.{◌≡◌, ℕ, Bool, true, false, List, [], ◌∷◌, refl, sym, ap, subst, ◌∙◌}
-use Rattle.std.specs.Prelude.{if◌then◌else◌, not, ◌||◌, nat_lt, slice_set, Option, None, Some, is_some, is_ok, Ok}
+use Rattle.std.specs.Prelude.{if◌then◌else◌, not, ◌||◌, nat_lt, slice_set, Option, None, Some, is_ok, Ok}
 use Rattle.std.specs.Option.{option_map}
 use Rattle.std.proofs.lemmas.Bool.{true≢false, false≢true}
 use Rattle.std.proofs.lemmas.List.{get_or-set_other, set_comm}
@@ -29,8 +29,8 @@ use Rattle.brd_board.specs.declared.event.Report.TheVariants as report
 use Rattle.brd_board.specs.Board.{BoardState, Happened, reported, then_dispatched, with_executed, with_call, with_fault, instruction_done, executes_in, accepts_or_executes, stepped_in, happens_on, happens, after}
 use Rattle.brd_frames.specs.Steady.{is_waiting_task}
 use Rattle.brd_frames.specs.Agents as agents
-use Rattle.brd_frames.specs.Agents.{Agent, agent_by, agent_on, with_context_in, with_agent, happened_with}
-use Rattle.brd_frames.specs.Apart.{is_handling, is_steady, Calls, starts, Starts, Executes, IsApart, AreApart}
+use Rattle.brd_frames.specs.Agents.{Agent, agent_by, with_agent, happened_with}
+use Rattle.brd_frames.specs.Apart.{is_handling, is_steady, starts, Starts, Executes, IsApart, AreApart}
 use Rattle.brd_frames.proofs.TableLemmas.{Contexts, At, Unsteady}
 use Rattle.brd_frames.proofs.KernelLemmas.{k-with, ticked-with, fault-with, dispatched-with}
 use Rattle.brd_frames.proofs.ServiceLemmas.{AtExecutor}

@@ -24,7 +24,6 @@ use Rattle.brd_objects.specs.Table.{object_at, object_changed}
 use Rattle.brd_objects.specs.Semaphores.{returned, first_waiter}
 use Rattle.brd_objects.specs.Flags.{joined, all_released, with_all_released}
 use Rattle.brd_objects.specs.DataQueues.{DataQueueState, sent, outcome, forced, forced_outcome, received}
-use Rattle.brd_objects.specs.declared.mutex.Mutex.{Mutex}
 use Rattle.brd_objects.specs.Mutexes.{given, next_owner_in}
 use Rattle.brd_objects.specs.Pools.{PoolState, given_back, next_holder}
 use Rattle.brd_objects.specs.Mailboxes.{MailboxState, message_sent, message_outcome}

@@ -1,6 +1,6 @@
 -- An event leaves the bytes to which it doesn't store.
 use Rattle.std.proofs.Common.{◌≡◌, ℕ, ◌+◌, ◌-◌, ◌≤◌, Bool, true, false, length, refl, sym, ap, subst, ◌∙◌, arith}
-use Rattle.std.specs.Prelude.{if◌then◌else◌, nat_lt, slice_index, Option, None, Some, is_some}
+use Rattle.std.specs.Prelude.{if◌then◌else◌, nat_lt, slice_index, Option, None, Some}
 use Rattle.std.proofs.lemmas.Bool.{false≢true}
 use Rattle.std.proofs.lemmas.Bool.Decides.{nat_tests}
 use Rattle.brd_base.specs.Space.{base}

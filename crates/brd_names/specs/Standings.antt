@@ -1,6 +1,6 @@
 -- How a board stands: what its processors do, which tasks are there, and which events may change that.
-use Rattle.std.specs.Prelude.{ℕ, ◌==◌, Bool, false, List, [], ◌∷◌, ◌++◌, map, filter, codes, Option, None, Some, is_some}
-use Rattle.std.specs.Prelude.{true}
+use Rattle.std.specs.Prelude.{ℕ, ◌==◌, Bool, false, List, [], ◌∷◌, ◌++◌, map, filter, codes}
+use Rattle.std.specs.Prelude.{true, Option, None, Some, is_some}
 use Rattle.std.specs.List.{list_any, range_with_len}
 use Rattle.brd_kernel.specs.declared.processor.Standing.{Standing}
 use Rattle.brd_board.specs.Board.{BoardState, task_of, standing_of}

@@ -1,5 +1,5 @@
 -- How a board starts whose image has pieces in their places.
-use Rattle.std.proofs.Common.{◌≡◌, ℕ, List, [], ◌∷◌, Result, Ok, Err, refl, ap, sym, subst, ◌∙◌, ◌++◌}
+use Rattle.std.proofs.Common.{◌≡◌, ℕ, List, [], ◌∷◌, Result, Ok, Err, refl, ap, sym, ◌∙◌, ◌++◌}
 use Rattle.std.specs.Prelude.{Bool, true, false, if◌then◌else◌}
 use Rattle.brd_text.specs.Faults.{◌>>=◌}
 use Rattle.brd_mem.specs.Memory.{Memory, copied}

@@ -1,5 +1,5 @@
 -- What the fields of places say of the list that they are.
-use Rattle.std.proofs.Common.{◌≡◌, ℕ, List, [], ◌∷◌, ◌++◌, length, refl, sym, ap, subst, ◌∙◌, arith}
+use Rattle.std.proofs.Common.{◌≡◌, ℕ, List, [], ◌∷◌, ◌++◌, refl, sym, ap, subst, ◌∙◌, arith}
 use Rattle.std.specs.Prelude.{slice_get, Some, Bool, true, Decides}
 use Rattle.brd_mem.specs.Memory.{size_of}
 use Rattle.brd_board.specs.declared.event.Event.{Event}

@@ -17,7 +17,8 @@ const HELP: &[u8] =
     b"goto N: goes to position N\nreset, restart: goes to position 0\nwhere: the position, and whose step comes\n\
     mark N, back N: lets mark N of 0 to 9 stand here, goes to where it stands\n\
     threads tasks, threads processors: what threads are\ntasks: the tasks and their states\n\
-    objects: who waits for what, which task has which mutex, when time handlers are due\nconsole: what was written to the console\nhelp: these commands\n";
+    objects: who waits for what, which task has which mutex, when time handlers are due\n\
+    console: what was written to the console\nhelp: these commands\n";
 
 impl Session {
     /// Answers a command that shows something.

@@ -78,6 +78,13 @@ next-text h so_far more whole i end below is known =
     ap (λ front. front ++ rest) is ∙ append_assoc so_far (h i) rest
     ∙ sym (ap (λ n. so_far ++ flat_map h (range_with_len i n)) left) ∙ known
 
+-- behind the last number nothing is left
+pub none-left : (h : ℕ → List ℕ) (found whole : List ℕ) (i end : ℕ) → end ≤ i →
+    found ++ flat_map h (range_with_len i (end - i)) ≡ whole → found ≡ whole
+none-left h found whole i end past known =
+    let none : end - i ≡ 0 = omega arith in
+    sym (ap (λ n. found ++ flat_map h (range_with_len i n)) none ∙ append-nil found) ∙ known
+
 pub tasks-on : (names : Names) (tasks slice : List TaskSeen) (i : ℕ) (a b c : List ℕ) (d : TaskSeen) → slice ≡ tasks →
     i < length slice → IsBehind (AreTexts (IsTaskLine names) (take i tasks)) a b →
     IsBehind (IsTaskLine names (slice_index_or slice i d)) b c →
