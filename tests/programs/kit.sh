@@ -109,7 +109,8 @@ awk 'BEGIN {
     }
     print "S 2 50000\nS 1 50000"
 }' > "$work/kit/shared/firmware.journal"
-projects=(examples/c_program examples/c_protocol examples/c_two_processors examples/c_messages "$work"/kit/*)
+projects=(examples/c_program examples/c_protocol examples/c_two_processors examples/c_messages examples/c_watchdog
+    "$work"/kit/*)
 what="programs in C, as Clang makes them"
 if ! have clang "$what" || ! have ld.lld "$what"; then
     :
