@@ -1,10 +1,11 @@
 """The kernel and the board of the model: tasks, objects, time, the table of service calls, events, the report.
 
 The uITRON 4.0 specification says what the calls do; TOPPERS/FMP what mact_tsk, imact_tsk, mig_tsk, get_pid, mget_tid,
-mrot_rdq and those of spin locks do. From where a call may come, the order of its refusals, that a call spins by coming
-again, that calls above 63 are there in the profile alone, that the ref_ calls tell a word each, which block of a memory
-pool is handed out, where pools lie, that snd_mbx has the priority as an argument and refuses a 257th message, that time
-handlers are handlers of interrupt lines above 31, put_chr, ext_ker, ret_int and the events are own choices.
+mrot_rdq, ista_alm, istp_alm and those of spin locks do. From where a call may come, the order of its refusals, that a
+call spins by coming again, that calls above 63 are there in the profile alone, that the ref_ calls tell a word each,
+which block of a memory pool is handed out, where pools lie, that snd_mbx has the priority as an argument and refuses a
+257th message, that time handlers are handlers of interrupt lines above 31, put_chr, ext_ker, ret_int and the events are
+own choices.
 """
 import collections
 
