@@ -1,10 +1,11 @@
 """The kernel and the board of the model: tasks, objects, time, the table of service calls, events, the report.
 
 The uITRON 4.0 specification says what the calls do; TOPPERS/FMP what mact_tsk, imact_tsk, mig_tsk, get_pid, mget_tid,
-mrot_rdq and those of spin locks do. From where a call may come, the order of its refusals, that a call spins by coming
-again, that calls above 63 are there in the profile alone, that the ref_ calls tell a word each, which block of a memory
-pool is handed out, where pools lie, that snd_mbx has the priority as an argument and refuses a 257th message, that time
-handlers are handlers of interrupt lines above 31, put_chr, ext_ker, ret_int and the events are own choices.
+mrot_rdq, ista_alm, istp_alm and those of spin locks do. From where a call may come, the order of its refusals, that a
+call spins by coming again, that calls above 63 are there in the profile alone, that the ref_ calls tell a word each,
+which block of a memory pool is handed out, where pools lie, that snd_mbx has the priority as an argument and refuses a
+257th message, that time handlers are handlers of interrupt lines above 31, put_chr, ext_ker, ret_int and the events are
+own choices.
 """
 import collections
 
@@ -390,16 +391,16 @@ class Board:
         self.dispatch()
 
     def tick(self):
-        """Ends the waits whose time has come, by ascending ID, before any other task is chosen to run; then handlers are
-        due."""
+        """Ends the waits whose time has come, by ascending ID, before any other task is chosen to run; then time
+        handlers are due."""
         self.now += 1
         for task in self.tasks.values():
             if task.due is not None and task.due <= self.now:
                 self.release(task, E_OK if task.waits_in is self.delayed else E_TMOUT)
         for line, timer in self.timers.items():
             if timer.due == self.now:
-                kind = "cyclic" if line % 2 == 0 else "alarm"
-                self.counts[f"time handler: {kind}" + (", lost" if line in self.pending else "")] += 1
+                kind = handler_name(line).split()[0]
+                self.counts[f"due: {kind} handler" + (", pending already" if line in self.pending else "")] += 1
                 self.pending.add(line)
                 timer.passed()
         self.dispatch()
@@ -414,6 +415,11 @@ class Board:
             lines.append(f"cpu {it.number} {what}" + (f" pc {it.context().pc:08x}" if it.context() else ""))
         lines += [f"task {it.id} {it.state} pri {it.priority} cpu {it.processor}" for it in self.tasks.values()]
         return "\n".join(lines + [f"console {len(self.console)}", ""]).encode() + bytes(self.console) + b"\n"
+
+
+def handler_name(line):
+    """What the handler of a line is called: those of time by their IDs."""
+    return f"handler {line}" if line < 32 else f"{'alarm' if line % 2 else 'cyclic'} handler {(line - 30) // 2}"
 
 
 def stacks(setup):

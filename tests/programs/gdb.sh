@@ -705,7 +705,7 @@ mark N, back N: lets mark N of 0 to 9 stand here, goes to where it stands
 mark NAME, goto NAME: the same of a mark with a name; marks: where the marks stand
 threads tasks, threads processors: what threads are
 tasks: the tasks and their states
-objects: who waits for what, .*
+objects: who waits for what, which task has which mutex, when time handlers are due
 console: what was written to the console
 help: these commands
 trace N: .*
