@@ -41,6 +41,7 @@ pub fn build(alloc: Global, source: &[u8], config: &[u8]) -> Result<Board, Build
     // That memory ran out stands in no other fault.
     ensures memory { IfErr result (λ fault. holds_no_memory fault ≡ false) }
 {
+    // For the proof alone: a source has one image.
     a_program_has_one_image();
     let elf = object_file(alloc, source)?;
     load(alloc, &elf, config)
