@@ -103,9 +103,7 @@ impl Log {
             Call::SusTsk(id) => self.suspend(doer, doer.named(id)),
             Call::StaCyc(id) => self.start_cyclic(doer, id),
             Call::StaAlm(id, _) => self.start_alarm(doer, id),
-            Call::StpCyc(_)
-            | Call::StpAlm(_)
-            | Call::CanAct(_)
+            Call::CanAct(_)
             | Call::ExtTsk
             | Call::ChgPri(_, _)
             | Call::GetPri(_)
@@ -125,7 +123,9 @@ impl Log {
             | Call::Sns(_)
             | Call::MgetTid(_)
             | Call::MrotRdq(_, _)
-            | Call::RefTsk(_, _)
+            | Call::StpCyc(_)
+            | Call::StpAlm(_) => Ok(()),
+            Call::RefTsk(_, _)
             | Call::RefSem(_, _)
             | Call::RefFlg(_, _)
             | Call::RefDtq(_, _)

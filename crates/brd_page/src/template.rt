@@ -6,7 +6,7 @@ pub(crate) const FRONT: &str = r##"<!DOCTYPE html>
 <head>
 <meta charset="utf-8">
 <meta name="viewport" content="width=device-width, initial-scale=1">
-<meta http-equiv="Content-Security-Policy" content="default-src 'none'; style-src 'sha256-W9botDGDLk0JmGEahRZsutuLH+eaN19tPwnNRcY7WkI='; script-src 'sha256-Jj9XUU4KFSk62sDPRBEtlNddtv/Qzi1DovV25Xx9S/8='; base-uri 'none'; form-action 'none'">
+<meta http-equiv="Content-Security-Policy" content="default-src 'none'; style-src 'sha256-HyoYuelYKqjOYPJ4MvA37ct6PNFWnz45y4SRwccm1bI='; script-src 'sha256-Jj9XUU4KFSk62sDPRBEtlNddtv/Qzi1DovV25Xx9S/8='; base-uri 'none'; form-action 'none'">
 <title>A run of the board</title>
 <style>/* The look of a page of `board trace --format html`: light or dark as the reader's system is, and for paper. */
 :root {
@@ -98,6 +98,7 @@ td .item { white-space: nowrap; }
 #memory .item { white-space: normal; min-width: 5.5rem; }
 #listing .item:hover { border-color: var(--chosen); text-decoration: underline; }
 #listing td:nth-child(4), #listing td:nth-child(5) { white-space: pre; }
+#views.has-source #listing td:nth-child(5) { white-space: pre-wrap; min-width: 10rem; }
 #listing td:first-child { font-weight: 700; }
 #views:not(.has-source) .source { display: none; }
 /* (An assembler source has the names, too.) */
