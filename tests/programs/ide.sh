@@ -206,7 +206,7 @@ if may_have emacs "GDB in Emacs"; then
 (say "continue")
 (wait-for "Breakpoint [0-9]+, ")
 (say "info threads")
-(wait-for "Thread 1 \"task 1\" (cpu 1, runs)")
+(wait-for "Thread 1 \"[^\"]*\" (cpu 1, runs)")
 (dolist (it '((14 "print 0") (15 "next") (14 "reverse-continue") (2 "reverse-continue")))
   (say (nth 1 it))
   (wait-for-line (car it)))
