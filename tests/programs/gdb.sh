@@ -161,6 +161,22 @@ No more reverse-execution history\.
 .* epc *
 .*80000014.*
 END
+    session "a condition of a break, $order-endian" << 'END'
+> break *0x80000008 if $t1 == 1
+Breakpoint 1 at 0x80000008
+> continue
+Thread 1( ".*")? hit Breakpoint 1, 0x80000008 in .*
+> printf "t0=%d t1=%d\n", $t0, $t1
+t0=1 t1=1
+> continue
+Thread 1( ".*")? received signal SIGBUS, Bus error\.
+> reverse-continue
+Thread 1( ".*")? hit Breakpoint 1, 0x80000008 in .*
+> printf "t0=%d t1=%d\n", $t0, $t1
+t0=1 t1=1
+> reverse-continue
+No more reverse-execution history\.
+END
     # A task that an exception has ended, and beyond: its processor has nothing to execute.
     session "after an exception, $order-endian" << 'END'
 > continue
@@ -261,6 +277,34 @@ t0=1
 END
 done
 
+# Suspended tasks, one of which waits too, keep their registers, and are stepped backward to their last instruction.
+for order in big little; do
+    elf=$work/suspended.$order
+    { echo "        .byteorder $order"; cat tests/data/gdb/suspended.s; } > "$work/suspended.s"
+    "$board" asm "$work/suspended.s" "$elf"
+    cfg=tests/data/gdb/suspended.cfg
+    ordered tests/data/gdb/suspended.journal
+    session "suspended tasks, $order-endian" << 'END'
+> continue
+The journal ends here: no processor executes anything\.
+> info threads
+\* 1 +Thread 1 "task 1" \(cpu 1, suspended, waits for a wake-up\) +0x80000008 in .*
+  2 +Thread 2 "task 2" \(cpu 1, suspended\) +0x80000008 in .*
+  3 +Thread 3 "task 3" \(cpu 1, dormant\) +0x80000034 in .*
+> thread 1
+.*
+> printf "v0=%d\n", $v0
+v0=16
+> reverse-stepi
+0x80000004 in .*
+> monitor where
+position 1 of 20: a step of processor 1 comes
+> info threads
+\* 1 +Thread 1 "task 1" \(cpu 1, runs\) +0x80000004 in .*
+  2 +Thread 2 "task 2" \(cpu 1, ready under task 1\) +0x80000008 in .*
+END
+done
+
 # Watches of stores, in a delay slot too, and of loads and accesses by the bytes that an instruction names.
 for order in big little; do
     elf=$work/parts.$order
@@ -303,6 +347,23 @@ New value = 9
 > delete
 > stepi
 0x8000002c in .*
+END
+    # Backward the condition sees the bytes as they are before the store.
+    session "a condition of a watch, $order-endian" << 'END'
+> watch *(int *)0x80000058 if *(int *)0x80000058 == 1
+Hardware watchpoint 1: .*
+> continue
+Old value = 2
+New value = 1
+0x8000002c in .*
+> continue
+No more reverse-execution history\.
+> reverse-continue
+Old value = 0
+New value = 1
+0x80000034 in .*
+> reverse-continue
+No more reverse-execution history\.
 END
     session "a watch of reads, $order-endian" << 'END'
 > rwatch *(char *)0x80000044
