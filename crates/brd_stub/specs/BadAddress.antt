@@ -51,5 +51,5 @@ address_in memory None context = None
 address_in memory (Some fault) None = None
 address_in memory (Some fault) (Some s) = if s.pc == place_of fault then address_by memory s fault.code else None
 
-abbrev pub bad_address : BoardState → Thread → Option ℕ
+unfoldable pub bad_address : BoardState → Thread → Option ℕ
 bad_address b it = address_in b.memory (fault_at b it) (context_at b it)

@@ -18,6 +18,7 @@ use brd_exec::{Context, ExceptionCode, Span, reads_by, writes_by};
 use brd_isa::{Insn, decode};
 
 /// The address that the last exception on a thread's processor was about, if the thread stands at its instruction.
+#[tactic(auto, using(crate::proofs::BadLemmas::written_out))]
 pub fn bad_address(board: &Board, thread: Thread) -> Option<u32>
     ensures { result ≡ bad_address board.now thread }
 {
