@@ -3,3 +3,4 @@ pub mod RoomLemmas
 pub mod FollowLemmas
 pub mod ChargeLemmas
 pub mod ScheduleLemmas
+pub mod FindLemmas

@@ -2,3 +2,4 @@ pub mod Blocks
 pub mod Charges
 pub mod Trees
 pub mod Lazy
+pub mod Finding
