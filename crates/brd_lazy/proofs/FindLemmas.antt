@@ -29,10 +29,11 @@ use Rattle.brd_blocks.specs.Stepping.{AllStandWell, IsHidden, IsVisible}
 use Rattle.brd_blocks.proofs.LinkLemmas.{stays-set}
 use Rattle.brd_reach.specs.Reaching.{Guards}
 use Rattle.brd_reach.proofs.WalkLemmas.{next-one, next-loud, after-more}
-use Rattle.brd_lazy.specs.declared.spots.Spot.{Spot}
+use Rattle.brd_lazy.specs.declared.spots.Margin.{Margin}
+use Rattle.brd_lazy.specs.Spots.{spot_of}
 use Rattle.brd_lazy.specs.Blocks.{after_steps, end_of, AreHidden, IsBlock, MayCome, IsKept}
 use Rattle.brd_lazy.specs.Trees.{IsCovered, IsLazyTree, IsFine}
-use Rattle.brd_lazy.specs.Finding.{HasWalked, place_of, IsIn, IsMore, IsKnown, HasGone, HasTried, HaveTried, IsDone, AreDone, BeginsAt}
+use Rattle.brd_lazy.specs.Finding.{HasWalked, IsIn, IsMore, IsKnown, HasGone, HasTried, HaveTried, IsDone, AreDone}
 use Rattle.brd_lazy.proofs.StepLemmas.{ends-at, hidden-more}
 use Rattle.brd_lazy.proofs.RoomLemmas.{some-events}
 use Rattle.brd_lazy.proofs.FollowLemmas.{none-fails}
@@ -72,41 +73,41 @@ not-both by b cpu hidden visible =
 
 -- More places.
 
-get-more : (xs ys : List Spot) (at : ℕ) (spot : Spot) → slice_get xs at ≡ Some spot → slice_get (xs ++ ys) at ≡ Some spot
+get-more : (xs ys : List Place) (at : ℕ) (spot : Place) → slice_get xs at ≡ Some spot → slice_get (xs ++ ys) at ≡ Some spot
 get-more [] ys at spot is = let wrong : ⊥ = cc in absurd wrong
 get-more (x ∷ xs) ys zero spot is = is
 get-more (x ∷ xs) ys (suc at) spot is = get-more xs ys at spot is
 
-get-last : (xs : List Spot) (spot : Spot) → slice_get (xs ++ spot ∷ []) (length xs) ≡ Some spot
+get-last : (xs : List Place) (spot : Place) → slice_get (xs ++ spot ∷ []) (length xs) ≡ Some spot
 get-last [] spot = refl
 get-last (x ∷ xs) spot = get-last xs spot
 
-pub more-same : (spots : List Spot) → IsMore spots spots
+pub more-same : (spots : List Place) → IsMore spots spots
 more-same spots = ([], sym (append-nil spots))
 
-pub more-then : (a b c : List Spot) → IsMore a b → IsMore b c → IsMore a c
+pub more-then : (a b c : List Place) → IsMore a b → IsMore b c → IsMore a c
 more-then a b c one two = (one.0 ++ two.0, two.1 ∙ ap (λ xs. xs ++ two.0) one.1 ∙ append_assoc a one.0 two.0)
 
-pub more-by : (a b : List Spot) (spot : Spot) → b ≡ a ++ spot ∷ [] → IsMore a b
+pub more-by : (a b : List Place) (spot : Place) → b ≡ a ++ spot ∷ [] → IsMore a b
 more-by a b spot is = (spot ∷ [], is)
 
-pub spot-more : (old new : List Spot) (at : ℕ) (spot : Spot) → IsMore old new → slice_get old at ≡ Some spot → slice_get new at ≡ Some spot
+pub spot-more : (old new : List Place) (at : ℕ) (spot : Place) → IsMore old new → slice_get old at ≡ Some spot → slice_get new at ≡ Some spot
 spot-more old new at spot more is = ap (λ xs. slice_get xs at) more.1 ∙ get-more old more.0 at spot is
 
-in-more : (old new : List Spot) (p : Place) → IsMore old new → IsIn old p → IsIn new p
-in-more old new p more it = (it.0, it.1, spot-more old new it.0 it.1 more it.2, it.3)
+in-more : (old new : List Place) (p : Place) → IsMore old new → IsIn old p → IsIn new p
+in-more old new p more it = (it.0, spot-more old new it.0 p more it.1)
 
-pub known-more : (old new : List Spot) (p : Place) → IsMore old new → IsKnown old p → IsKnown new p
+pub known-more : (old new : List Place) (p : Place) → IsMore old new → IsKnown old p → IsKnown new p
 known-more old new p more it = record { place = it.place; there = in-more old new it.place more it.there; richer = it.richer }
 
-pub known-last : (old new : List Spot) (spot : Spot) → new ≡ old ++ spot ∷ [] → IsKnown new (place_of spot)
+pub known-last : (old new : List Place) (spot : Place) → new ≡ old ++ spot ∷ [] → IsKnown new spot
 known-last old new spot is = record {
-  place = place_of spot;
-  there = (length old, spot, ap (λ xs. slice_get xs (length old)) is ∙ get-last old spot, refl);
-  richer = rich-same (place_of spot);
+  place = spot;
+  there = (length old, ap (λ xs. slice_get xs (length old)) is ∙ get-last old spot);
+  richer = rich-same spot;
 }
 
-pub gone-more : (by : Sharing) (old new : List Spot) (p : Place) (cpu : ℕ) → IsMore old new → HasGone by old p cpu → HasGone by new p cpu
+pub gone-more : (by : Sharing) (old new : List Place) (p : Place) (cpu : ℕ) → IsMore old new → HasGone by old p cpu → HasGone by new p cpu
 gone-more by old new p cpu more (inl idle) = inl idle
 gone-more by old new p cpu more (inr (inl alone)) =
     inr (inl (alone.0, λ did. known-more old new (next p (Step cpu)) more (alone.1 did)))
@@ -114,57 +115,56 @@ gone-more by old new p cpu more (inr (inr (inl block))) =
     inr (inr (inl (block.0, block.1, known-more old new (place_after p (replicate (suc block.0) (Step cpu))) more block.2)))
 gone-more by old new p cpu more (inr (inr (inr cut))) = inr (inr (inr cut))
 
-pub tried-more : (by : Sharing) (old new : List Spot) (p : Place) (event : Event) → IsMore old new → HasTried by old p event →
+pub tried-more : (by : Sharing) (old new : List Place) (p : Place) (event : Event) → IsMore old new → HasTried by old p event →
     HasTried by new p event
 tried-more by old new p (Step cpu) more it = (it.0, it.1, it.2, gone-more by old new p cpu more it.3)
 tried-more by old new p Tick more it = λ did. known-more old new (next p Tick) more (it did)
 tried-more by old new p (Raise line) more it = λ did. known-more old new (next p (Raise line)) more (it did)
 
-pub done-more : (by : Sharing) (among : List Event) (wanted : Wanted) (old new : List Spot) (p : Place) → IsMore old new →
+pub done-more : (by : Sharing) (among : List Event) (wanted : Wanted) (old new : List Place) (p : Place) → IsMore old new →
     IsDone by among wanted old p → IsDone by among wanted new p
 done-more by among wanted old new p more it = record {
   holds = it.holds;
   tried = λ set k less left. tried-more by old new p (event_at among k) more (it.tried set k less left);
 }
 
-pub there-is : (xs : List Spot) (i : ℕ) → i < length xs → (spot : Spot) × (slice_get xs i ≡ Some spot)
+pub there-is : (xs : List Place) (i : ℕ) → i < length xs → (spot : Place) × (slice_get xs i ≡ Some spot)
 there-is [] i less = absurd (omega (arith, less))
 there-is (x ∷ xs) zero less = (x, refl)
 there-is (x ∷ xs) (suc i) less = there-is xs i (omega (arith, less))
 
-same-some : (p q : Spot) → Some p ≡ Some q → p ≡ q
+same-some : (p q : Place) → Some p ≡ Some q → p ≡ q
 same-some p q is = cc
 
 less-or-same : (n m : ℕ) → n < m + 1 → (n < m) ⊎ (n ≡ m)
 less-or-same n m less = grind (arith, less)
 
-pub done-next : (by : Sharing) (among : List Event) (wanted : Wanted) (old new : List Spot) (at : ℕ) (spot : Spot) →
-    AreDone by among wanted old at → IsMore old new → slice_get old at ≡ Some spot → IsDone by among wanted new (place_of spot) →
+pub done-next : (by : Sharing) (among : List Event) (wanted : Wanted) (old new : List Place) (at : ℕ) (spot : Place) →
+    AreDone by among wanted old at → IsMore old new → slice_get old at ≡ Some spot → IsDone by among wanted new spot →
     AreDone by among wanted new (at + 1)
 done-next by among wanted old new at spot done more here it k less s is =
     elim (less-or-same k at less) [
       | inl below ↦
           let found = there-is old k (omega (arith, below, slice_get_within old at spot here)) in
-          subst (λ (q : Spot). IsDone by among wanted new (place_of q))
-          (same-some found.0 s (sym (spot-more old new k found.0 more found.1) ∙ is))
-          (done-more by among wanted old new (place_of found.0) more (done k below found.0 found.1))
+          subst (IsDone by among wanted new) (same-some found.0 s (sym (spot-more old new k found.0 more found.1) ∙ is))
+          (done-more by among wanted old new found.0 more (done k below found.0 found.1))
       | inr same ↦
-          subst (λ (q : Spot). IsDone by among wanted new (place_of q))
+          subst (IsDone by among wanted new)
           (same-some spot s (sym (spot-more old new at spot more here) ∙ subst (λ n. slice_get new n ≡ Some s) same is)) it
     ]
 
 -- The tree.
 
 -- a place whose links are a set
-abbrev pub IsGood : List Spot → Place → Type 0
+abbrev pub IsGood : List Place → Place → Type 0
 IsGood spots p = IsIn spots p × IsLinkSet p.board.links
 
-done-at : (by : Sharing) (among : List Event) (wanted : Wanted) (spots : List Spot) (p : Place) → AreDone by among wanted spots (length spots) →
+done-at : (by : Sharing) (among : List Event) (wanted : Wanted) (spots : List Place) (p : Place) → AreDone by among wanted spots (length spots) →
     IsIn spots p → IsDone by among wanted spots p
 done-at by among wanted spots p done it =
-    subst (IsDone by among wanted spots) it.3 (done it.0 (slice_get_within spots it.0 it.1 it.2) it.1 it.2)
+    done it.0 (slice_get_within spots it.0 p it.1) p it.1
 
-tried-at : (by : Sharing) (among : List Event) (wanted : Wanted) (spots : List Spot) (p : Place) (event : Event) →
+tried-at : (by : Sharing) (among : List Event) (wanted : Wanted) (spots : List Place) (p : Place) (event : Event) →
     AreDone by among wanted spots (length spots) → IsGood spots p → MayCome among p event → HasTried by spots p event
 tried-at by among wanted spots p event done it may =
     let is : event_at among may.listed.at ≡ event = may.listed.is in
@@ -196,7 +196,7 @@ hidden-loud by b cpu n some hidden quiet = let first : IsHidden by b cpu = hidde
 trichotomy : (n m : ℕ) → (n < m) ⊎ ((n ≡ m) ⊎ (m < n))
 trichotomy n m = grind arith
 
-kept-by : (by : Sharing) (spots : List Spot) (p : Place) (cpu count : ℕ) (who : Agent) → HasGone by spots p cpu → IsNext p.board cpu who →
+kept-by : (by : Sharing) (spots : List Place) (p : Place) (cpu count : ℕ) (who : Agent) → HasGone by spots p cpu → IsNext p.board cpu who →
     count < p.left.events → AreHidden by p.board cpu count →
     IsHidden by (after_steps p.board cpu count) cpu ⊎ IsVisible by (after_steps p.board cpu count) cpu
 kept-by by spots p cpu count who (inl idle) next room hidden = absurd (off-next p.board cpu who next idle.1)
@@ -234,7 +234,7 @@ set-after p cpu (suc n) some few set = elim (cases_Bool (does p.board (Step cpu)
       (set-after p cpu n some few set)
 ]
 
-good : (spots : List Spot) (p : Place) → IsLinkSet p.board.links → IsKnown spots p → IsCovered (IsGood spots) p
+good : (spots : List Place) (p : Place) → IsLinkSet p.board.links → IsKnown spots p → IsCovered (IsGood spots) p
 good spots p set it = record {
   place = it.place;
   there = (it.there, subst (λ (b : BoardState). IsLinkSet b.links) (sym it.richer.board) set);
@@ -256,20 +256,20 @@ next-does b cpu who next =
     (context_of b.kernel cpu x).pc (left_by b cpu x).outcome
 
 -- A block leads to the place after it.
-pub block-leads : (by : Sharing) (spots : List Spot) (p : Place) (cpu count : ℕ) → IsBlock by p.board cpu count → IsKnown spots (end_of p cpu count) →
+pub block-leads : (by : Sharing) (spots : List Place) (p : Place) (cpu count : ℕ) → IsBlock by p.board cpu count → IsKnown spots (end_of p cpu count) →
     IsKnown spots (place_after p (replicate (suc count) (Step cpu)))
 block-leads by spots p cpu count block known =
     subst (IsKnown spots) (sym (ends-at by p cpu count block.hidden
     (next-does (after_steps p.board cpu count) cpu block.visible.who block.visible.next))) known
 
-quiet-known : (by : Sharing) (spots : List Spot) (p : Place) (cpu : ℕ) → HasGone by spots p cpu → 0 < p.left.events →
+quiet-known : (by : Sharing) (spots : List Place) (p : Place) (cpu : ℕ) → HasGone by spots p cpu → 0 < p.left.events →
     does p.board (Step cpu) ≡ true → IsQuiet p.board (Step cpu) → IsKnown spots (next p (Step cpu))
 quiet-known by spots p cpu (inl idle) some did quiet = absurd (false≢true (sym idle.0 ∙ did))
 quiet-known by spots p cpu (inr (inl alone)) some did quiet = alone.1 did
 quiet-known by spots p cpu (inr (inr (inl block))) some did quiet = absurd (block-loud by p.board cpu block.0 block.1 quiet)
 quiet-known by spots p cpu (inr (inr (inr cut))) some did quiet = absurd (hidden-loud by p.board cpu p.left.events some cut quiet)
 
-block-known : (by : Sharing) (spots : List Spot) (p : Place) (cpu count : ℕ) → HasGone by spots p cpu → count < p.left.events →
+block-known : (by : Sharing) (spots : List Place) (p : Place) (cpu count : ℕ) → HasGone by spots p cpu → count < p.left.events →
     IsBlock by p.board cpu count → IsKnown spots (place_after p (replicate (suc count) (Step cpu)))
 block-known by spots p cpu count (inl idle) room block = absurd (block-on by p.board cpu count block idle.1)
 block-known by spots p cpu count (inr (inl alone)) room block = absurd (block-loud by p.board cpu count block alone.0)
@@ -288,7 +288,7 @@ no-step cpu is = let wrong : ⊥ = cc in wrong
 no-raise : (line cpu : ℕ) → Raise line ≡ Step cpu → ⊥
 no-raise line cpu is = let wrong : ⊥ = cc in wrong
 
-tree-quiet : (by : Sharing) (spots : List Spot) (among : List Event) (p : Place) (event : Event) → HasTried by spots p event → MayCome among p event →
+tree-quiet : (by : Sharing) (spots : List Place) (among : List Event) (p : Place) (event : Event) → HasTried by spots p event → MayCome among p event →
     IsLinkSet p.board.links → does p.board event ≡ true → IsQuiet p.board event → IsCovered (IsGood spots) (next p event)
 tree-quiet by spots among p (Step cpu) it may set did quiet =
     good spots (next p (Step cpu)) (set-next p.board (Step cpu) (of-step cpu it.0 it.1) set)
@@ -298,7 +298,7 @@ tree-quiet by spots among p Tick it may set did quiet =
 tree-quiet by spots among p (Raise line) it may set did quiet =
     good spots (next p (Raise line)) (set-next p.board (Raise line) (λ cpu is. absurd (no-raise line cpu is)) set) (it did)
 
-tree : (by : Sharing) (among : List Event) (wanted : Wanted) (spots : List Spot) → AreDone by among wanted spots (length spots) →
+tree : (by : Sharing) (among : List Event) (wanted : Wanted) (spots : List Place) → AreDone by among wanted spots (length spots) →
     IsLazyTree by among (IsGood spots)
 tree by among wanted spots done = record {
   kept = λ p it. record {
@@ -314,7 +314,7 @@ tree by among wanted spots done = record {
       (block-known by spots p cpu count tried.3 room block);
 }
 
-pub holds-so : (by : Sharing) (among : List Event) (wanted : Wanted) (spots : List Spot) (p : Place) → wanted.rounds ≡ 0 → Guards by wanted →
+pub holds-so : (by : Sharing) (among : List Event) (wanted : Wanted) (spots : List Place) (p : Place) → wanted.rounds ≡ 0 → Guards by wanted →
     IsKnown spots p → AreDone by among wanted spots (length spots) → IsLinkSet p.board.links → NoneFails wanted among p
 holds-so by among wanted spots p none guards known done set =
     none-fails by among wanted (IsGood spots) p none (record {
@@ -392,7 +392,7 @@ end-is p cpu count b one last is left who =
     })
 
 -- One event more was tried.
-pub tried-next : (by : Sharing) (among : List Event) (old new : List Spot) (p : Place) (i : ℕ) (event : Event) → IsMore old new →
+pub tried-next : (by : Sharing) (among : List Event) (old new : List Place) (p : Place) (i : ℕ) (event : Event) → IsMore old new →
     (IsLinkSet p.board.links → HaveTried by among old p i) →
     (is_left p event ≡ true → IsLinkSet p.board.links → HasTried by new p event) → event ≡ get_or among i event → i < length among →
     IsLinkSet p.board.links → HaveTried by among new p (i + 1)
@@ -435,6 +435,45 @@ found-so wanted among from p events it fails =
     }
 
 -- The first place.
-pub begins-known : (old new : List Spot) (p : Place) → BeginsAt old p → IsMore old new → IsKnown new p
-begins-known old new p begins more =
-    known-more old new p more (subst (IsKnown old) begins.2 (known-last [] old begins.0 begins.1))
+pub begins-known : (old new : List Place) (p : Place) → old ≡ p ∷ [] → IsMore old new → IsKnown new p
+begins-known old new p begins more = known-more old new p more (known-last [] old p begins)
+
+-- The place of an index is the one of this board and this margin.
+pub here-is : (spots : List Place) (at : ℕ) (b : BoardState) (margin : Margin) → at < length spots →
+    ((p : Place) → slice_get spots at ≡ Some p → b ≡ p.board) →
+    ((p : Place) → slice_get spots at ≡ Some p → spot_of p.board margin ≡ p) → slice_get spots at ≡ Some (spot_of b margin)
+here-is spots at b margin within boards margins =
+    let found = there-is spots at within in
+    found.1 ∙ ap Some (sym (ap (λ c. spot_of c margin) (boards found.0 found.1) ∙ margins found.0 found.1))
+
+-- It is within them.
+pub at-within : (spots : List Place) (at : ℕ) (p : Place) → slice_get spots at ≡ Some p → at < length spots
+at-within spots at p is = slice_get_within spots at p is
+
+-- The place after one event.
+pub one-is : (p : Place) (event : Event) (b : BoardState) (margin rest : Margin) → p ≡ spot_of p.board margin →
+    b ≡ (happens p.board event).board → rest.left ≡ spent margin.left margin.last event → rest.last ≡ stepper b margin.last event →
+    spot_of b rest ≡ next p event
+one-is p event b margin rest here is left last =
+    let lefts : margin.left ≡ p.left = ap (λ (q : Place). q.left) (sym here) in
+    let lasts : margin.last ≡ p.last = ap (λ (q : Place). q.last) (sym here) in
+    let left' : rest.left ≡ spent p.left p.last event = left ∙ ap (λ l. spent l margin.last event) lefts ∙ ap (λ l. spent p.left l event) lasts in
+    let last' : rest.last ≡ stepper (happens p.board event).board p.last event =
+    last ∙ ap (λ l. stepper b l event) lasts ∙ ap (λ z. stepper z p.last event) is in
+    (λ i. record { board = is i; left = left' i; last = last' i })
+
+-- The place after a block.
+pub block-is : (p : Place) (cpu count : ℕ) (b : BoardState) (margin rest : Margin) (one : Bounds) → p ≡ spot_of p.board margin →
+    b ≡ after_steps p.board cpu (suc count) → one ≡ spent margin.left margin.last (Step cpu) →
+    rest.left ≡ record one { events = margin.left.events - count - 1 } → rest.last ≡ stepper b margin.last (Step cpu) →
+    spot_of b rest ≡ end_of p cpu count
+block-is p cpu count b margin rest one here is first left last =
+    let lefts : margin.left ≡ p.left = ap (λ (q : Place). q.left) (sym here) in
+    let lasts : margin.last ≡ p.last = ap (λ (q : Place). q.last) (sym here) in
+    let one' : one ≡ spent p.left p.last (Step cpu) =
+    first ∙ ap (λ l. spent l margin.last (Step cpu)) lefts ∙ ap (λ l. spent p.left l (Step cpu)) lasts in
+    let left' : rest.left ≡ record one { events = p.left.events - count - 1 } =
+    left ∙ ap (λ (l : Bounds). record one { events = l.events - count - 1 }) lefts in
+    let last' : rest.last ≡ stepper b p.last (Step cpu) = last ∙ ap (λ l. stepper b l (Step cpu)) lasts in
+    (λ i. record { board = b; left = left' i; last = last' i })
+    ∙ end-is p cpu count b one (stepper b p.last (Step cpu)) is one' refl

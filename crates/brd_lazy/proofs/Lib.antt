@@ -4,3 +4,4 @@ pub mod FollowLemmas
 pub mod ChargeLemmas
 pub mod ScheduleLemmas
 pub mod FindLemmas
+pub mod SpotLemmas

@@ -17,7 +17,6 @@ use Rattle.brd_lazy.specs.Blocks.{after_steps, AreHidden, IsBlock}
 use Rattle.brd_lazy.specs.Trees.{IsCovered}
 use Rattle.brd_lazy.specs.declared.block.Block.{Block}
 use Rattle.brd_lazy.specs.declared.block.Block.TheVariants as block
-use Rattle.brd_lazy.specs.declared.spots.Spot.{Spot}
 use Rattle.brd_lazy.specs.declared.visit.Tried.{Tried}
 use Rattle.brd_lazy.specs.declared.visit.Tried.TheVariants as tried
 use Rattle.brd_lazy.specs.declared.finding.Lazily.{Lazily}
@@ -35,7 +34,7 @@ pub record HasWalked (by : Sharing) (b : BoardState) (cpu count : ℕ) (new : Bo
 
 -- what a block of at most so many steps came to
 abbrev pub WentSo : Sharing → BoardState → ℕ → ℕ → BoardState → Block → Type 0
-WentSo by b cpu most new block.Idle = (b.kernel.off ≡ true) ⊎ IsQuiet b (Step cpu)
+WentSo by b cpu most new block.Idle = ((b.kernel.off ≡ true) ⊎ IsQuiet b (Step cpu)) × (new ≡ b)
 WentSo by b cpu most new block.Alone = IsQuiet b (Step cpu) × (new ≡ (happens b (Step cpu)).board)
 WentSo by b cpu most new (block.Ends count) =
     (count < most) × IsBlock by b cpu count × (new ≡ after_steps b cpu (suc count))
@@ -50,69 +49,62 @@ EndsWithin most _ = Unit {0}
 
 -- Places.
 
-abbrev pub place_of : Spot → Place
-place_of s = record { board = s.board; left = s.left; last = s.last }
-
 -- a place is one of these
-abbrev pub IsIn : List Spot → Place → Type 0
-IsIn spots p = (at : ℕ) × (spot : Spot) × (slice_get spots at ≡ Some spot) × (place_of spot ≡ p)
+abbrev pub IsIn : List Place → Place → Type 0
+IsIn spots p = (at : ℕ) × (slice_get spots at ≡ Some p)
 
 -- there are no fewer than there were
-abbrev pub IsMore : List Spot → List Spot → Type 0
-IsMore old new = (more : List Spot) × (new ≡ old ++ more)
+abbrev pub IsMore : List Place → List Place → Type 0
+IsMore old new = (more : List Place) × (new ≡ old ++ more)
 
 -- one of these covers a place
-abbrev pub IsKnown : List Spot → Place → Type 0
+abbrev pub IsKnown : List Place → Place → Type 0
 IsKnown spots p = IsCovered (IsIn spots) p
 
 -- What was tried at a place.
 
 -- what the block of a processor there came to that may step
-abbrev pub HasGone : Sharing → List Spot → Place → ℕ → Type 0
+abbrev pub HasGone : Sharing → List Place → Place → ℕ → Type 0
 HasGone by spots p cpu =
     ((does p.board (Step cpu) ≡ false) × ((p.board.kernel.off ≡ true) ⊎ IsQuiet p.board (Step cpu)))
     ⊎ ((IsQuiet p.board (Step cpu) × (does p.board (Step cpu) ≡ true → IsKnown spots (next p (Step cpu))))
     ⊎ (((count : ℕ) × IsBlock by p.board cpu count × IsKnown spots (place_after p (replicate (suc count) (Step cpu))))
     ⊎ AreHidden by p.board cpu p.left.events))
 
-abbrev pub HasTried : Sharing → List Spot → Place → Event → Type 0
+abbrev pub HasTried : Sharing → List Place → Place → Event → Type 0
 HasTried by spots p (Step cpu) = (1 ≤ cpu) × (cpu ≤ 8) × AllStandWell p.board cpu × HasGone by spots p cpu
 HasTried by spots p Tick = does p.board Tick ≡ true → IsKnown spots (next p Tick)
 HasTried by spots p (Raise line) = does p.board (Raise line) ≡ true → IsKnown spots (next p (Raise line))
 
 -- the first of the events that may come have been tried there, if something is left for them
-abbrev pub HaveTried : Sharing → List Event → List Spot → Place → ℕ → Type 0
+abbrev pub HaveTried : Sharing → List Event → List Place → Place → ℕ → Type 0
 HaveTried by among spots p upto =
     (k : ℕ) → k < upto → is_left p (event_at among k) ≡ true → HasTried by spots p (event_at among k)
 
 -- A place has been gone through: it doesn't fail, and all events have been tried there. (The links of every board are a
 -- set.)
-pub record IsDone (by : Sharing) (among : List Event) (wanted : Wanted) (spots : List Spot) (p : Place) : Type 0 where
+pub record IsDone (by : Sharing) (among : List Event) (wanted : Wanted) (spots : List Place) (p : Place) : Type 0 where
   pub holds : fails_at wanted p.board p.left ≡ false
   pub tried : IsLinkSet p.board.links → HaveTried by among spots p (length among)
 
 -- what was tried there by one event
-abbrev pub TriedSo : Sharing → List Spot → Place → Event → Tried → Type 0
+abbrev pub TriedSo : Sharing → List Place → Place → Event → Tried → Type 0
 TriedSo by spots p event tried.Done = IsLinkSet p.board.links → HasTried by spots p event
 TriedSo by spots p event tried.Fails = ⊥
 TriedSo by spots p event _ = Unit {0}
 
 -- what a visit came to
-abbrev pub VisitedSo : Sharing → List Event → Wanted → List Spot → Place → Tried → Type 0
+abbrev pub VisitedSo : Sharing → List Event → Wanted → List Place → Place → Tried → Type 0
 VisitedSo by among wanted spots p tried.Done = IsDone by among wanted spots p
 VisitedSo by among wanted spots p _ = Unit {0}
 
 -- the first places have been gone through
-abbrev pub AreDone : Sharing → List Event → Wanted → List Spot → ℕ → Type 0
+abbrev pub AreDone : Sharing → List Event → Wanted → List Place → ℕ → Type 0
 AreDone by among wanted spots upto =
-    (at : ℕ) → at < upto → (spot : Spot) → slice_get spots at ≡ Some spot → IsDone by among wanted spots (place_of spot)
-
--- the places begin with the one from which the schedules go out
-abbrev pub BeginsAt : List Spot → Place → Type 0
-BeginsAt spots p = (spot : Spot) × (spots ≡ spot ∷ []) × (place_of spot ≡ p)
+    (at : ℕ) → at < upto → (p : Place) → slice_get spots at ≡ Some p → IsDone by among wanted spots p
 
 -- what a round came to
-abbrev pub RoundSo : Sharing → List Event → Wanted → List Spot → Round → Type 0
+abbrev pub RoundSo : Sharing → List Event → Wanted → List Place → Round → Type 0
 RoundSo by among wanted spots round.Holds = AreDone by among wanted spots (length spots)
 RoundSo by among wanted spots _ = Unit {0}
 
@@ -120,5 +112,5 @@ RoundSo by among wanted spots _ = Unit {0}
 -- links of a board are a set, as those of every board are.)
 abbrev pub FoundSo : Wanted → List Event → Place → Lazily → Type 0
 FoundSo wanted among from (lazily.Found events) = IsFound wanted among from events.items
-FoundSo wanted among from lazily.NoneFails = IsLinkSet from.board.links → NoneFails wanted among from
+FoundSo wanted among from (lazily.NoneFails gone) = IsLinkSet from.board.links → NoneFails wanted among from
 FoundSo wanted among from (lazily.Unknown why) = Unit {0}

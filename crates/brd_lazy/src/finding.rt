@@ -1,20 +1,29 @@
 //! The search: all places of a lazy tree, and a schedule that fails if one of them does.
 
-ghost use Rattle.std.specs.Prelude.{◌≡◌, IfOk, true};
+ghost use Rattle.std.specs.Prelude.{◌≡◌, IfErr, IfOk, true};
 ghost use Rattle.brd_explore.specs.Schedules.{IsAmong, start};
-ghost use Rattle.brd_explore.specs.Searching.{IsFound};
-ghost use Rattle.brd_lazy.specs.Finding.{BeginsAt, FoundSo, IsMore, RoundSo};
+ghost use Rattle.brd_explore.specs.Searching.{HaltsSo, IsFound};
+ghost use Rattle.brd_lazy.specs.Finding.{FoundSo, IsMore, RoundSo};
 ghost use Rattle.brd_reach.specs.Rounds.{sharing_for};
 
 use crate::bounds::{affords, spent, stepper};
-use crate::spots::Spot;
+use crate::spots::Spots;
 use crate::visit::{Tried, visit};
 use brd_base::NoMemory;
 use brd_blocks::Sharing;
 use brd_board::{Board, Event};
-use brd_explore::{Bounds, Wanted, did_nothing};
-use brd_reach::{Unknown, guarded, learn, ram_len};
+use brd_explore::{Bounds, Halt, Wanted, Watch, did_nothing};
+use brd_reach::{Unknown, guarded, learn, owned_words, ram_len};
 use std::alloc::Global;
+
+/// Through how many places a search went, and what was left there.
+#[derive(Clone, Copy, Debug, PartialEq, Eq)]
+pub struct Gone {
+    /// Through how many.
+    pub places: usize,
+    /// How many preemptions were left at each. If any were, the bound on them has left nothing out.
+    pub spare: u32,
+}
 
 /// What a lazy search came to.
 #[derive(Drop)]
@@ -22,7 +31,7 @@ pub enum Lazily {
     /// A schedule within the bounds that fails.
     Found(Vec<Event>),
     /// No schedule within them fails.
-    NoneFails,
+    NoneFails(Gone),
     /// It isn't known.
     Unknown(Unknown),
 }
@@ -45,33 +54,40 @@ pub(crate) enum Round {
 const MOST_ROUNDS: u32 = 10_000;
 
 /// Searches the schedules of a board within bounds, of which each event is one of these, for one that fails: by the lazy
-/// ones. It goes through so many places at most.
-pub fn find_lazily(
+/// ones. It goes through so many places at most. Who watches is told through how many it has gone.
+pub fn find_lazily<W: Watch>(
     alloc: Global,
     board: &Board,
     bounds: Bounds,
     among: &[Event],
     wanted: &Wanted,
     most: usize,
-) -> Result<Lazily, NoMemory>
-    ensures { IfOk result (FoundSo wanted.now among.now (start board.now bounds)) }
+    watch: &mut W,
+) -> Result<Lazily, Halt>
+    ensures is { IfOk result (FoundSo wanted.now among.now (start board.now bounds)) }
+    ensures halts { IfErr result (HaltsSo W.may_stop) }
 {
     if wanted.rounds != 0 {
         return Ok(Lazily::Unknown(Unknown::Fair));
     }
-    let mut sharing = guarded(alloc, ram_len(board), wanted)?;
+    let size = ram_len(board);
+    let mut sharing = guarded(alloc, size, wanted)?;
     for _ in 0..MOST_ROUNDS {
-        let mut spots = begin(alloc, board, bounds)?;
-        match visit_all(&mut spots, &sharing, among, wanted, most)? {
-            Round::Holds => return Ok(Lazily::NoneFails),
-            Round::Fails(at) => {
-                return found(alloc, board, bounds, among, wanted, spots.as_slice(), at);
-            }
+        let words = owned_words(alloc, &sharing, size)?;
+        let mut spots = Spots::new(alloc, board, bounds)?;
+        match visit_all(
+            &mut spots,
+            &sharing,
+            words.as_slice(),
+            among,
+            wanted,
+            most,
+            watch,
+        )? {
+            Round::Holds => return Ok(Lazily::NoneFails(gone(&spots))),
+            Round::Fails(at) => return Ok(found(alloc, board, bounds, among, wanted, &spots, at)?),
             Round::Strays(at, cpu, count) => {
-                if at >= spots.len() {
-                    return Ok(Lazily::Unknown(Unknown::Waits));
-                }
-                let place = spots[at].board.try_copy()?;
+                let place = spots.board(at)?;
                 learn(&mut sharing, place, cpu, count, among);
             }
             Round::Unknown(why) => return Ok(Lazily::Unknown(why)),
@@ -80,38 +96,36 @@ pub fn find_lazily(
     Ok(Lazily::Unknown(Unknown::Rounds))
 }
 
-/// The place where the schedules begin.
-fn begin(alloc: Global, board: &Board, bounds: Bounds) -> Result<Vec<Spot>, NoMemory>
-    ensures { IfOk result (λ spots. BeginsAt spots.items (start board.now bounds)) }
-{
-    let mut spots = Vec::new(alloc);
-    spots.push(Spot {
-        board: board.try_copy()?,
-        left: bounds,
-        last: None,
-        from: 0,
-        event: Event::Tick,
-        count: 0,
-    })?;
-    Ok(spots)
+/// Through how many places a search went, and what was left there.
+fn gone(spots: &Spots) -> Gone {
+    Gone {
+        places: spots.len(),
+        spare: spots.spare(),
+    }
 }
 
 /// Visits places, and those to which events lead from them, until all have been visited or one fails; at most so many.
-fn visit_all(
-    spots: &mut Vec<Spot>,
+fn visit_all<W: Watch>(
+    spots: &mut Spots,
     sharing: &Sharing,
+    words: &[u32],
     among: &[Event],
     wanted: &Wanted,
     most: usize,
-) -> Result<Round, NoMemory>
-    ensures more { IsMore spots.old.items spots.new.items }
-    ensures so { IfOk result (RoundSo (sharing_for sharing.now wanted.now) among.now wanted.now spots.new.items) }
+    watch: &mut W,
+) -> Result<Round, Halt>
+    ensures more { IsMore spots.old spots.new }
+    ensures so { IfOk result (RoundSo (sharing_for sharing.now wanted.now) among.now wanted.now spots.new) }
+    ensures halts { IfErr result (HaltsSo W.may_stop) }
 {
     for at in 0..most {
         if at >= spots.len() {
             return Ok(Round::Holds);
         }
-        match visit(spots, at, sharing, among, wanted)? {
+        if !watch.tried(at as u64) {
+            return Err(Halt::Stopped);
+        }
+        match visit(spots, at, sharing, words, among, wanted)? {
             Tried::Done => {}
             Tried::Fails => return Ok(Round::Fails(at)),
             Tried::Strays(cpu, count) => return Ok(Round::Strays(at, cpu, count)),
@@ -128,43 +142,17 @@ fn found(
     bounds: Bounds,
     among: &[Event],
     wanted: &Wanted,
-    spots: &[Spot],
+    spots: &Spots,
     at: usize,
 ) -> Result<Lazily, NoMemory>
     ensures { IfOk result (FoundSo wanted.now among.now (start board.now bounds)) }
 {
-    let events = path_to(alloc, spots, at)?;
+    let path = spots.path(at)?;
+    let events = Vec::from_slice(alloc, path.as_slice())?;
     if is_found(board, bounds, among, wanted, events.as_slice())? {
         return Ok(Lazily::Found(events));
     }
     Ok(Lazily::Unknown(Unknown::Waits))
-}
-
-/// The events that lead to the place of an index.
-fn path_to(alloc: Global, spots: &[Spot], at: usize) -> Result<Vec<Event>, NoMemory> {
-    let mut events = Vec::new(alloc);
-    let mut at = at;
-    for _ in 0..spots.len() {
-        if at >= spots.len() {
-            break;
-        }
-        let spot = &spots[at];
-        push_many(&mut events, spot.event, spot.count)?;
-        if spot.from >= at {
-            break;
-        }
-        at = spot.from;
-    }
-    events.reverse();
-    Ok(events)
-}
-
-/// Pushes an event so many times.
-fn push_many(events: &mut Vec<Event>, event: Event, count: u32) -> Result<(), NoMemory> {
-    for _ in 0..count {
-        events.push(event)?;
-    }
-    Ok(())
 }
 
 /// Whether these events are a schedule within the bounds that fails.

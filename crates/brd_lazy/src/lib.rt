@@ -12,4 +12,4 @@ pub mod laws;
 mod spots;
 mod visit;
 
-pub use finding::{Lazily, find_lazily};
+pub use finding::{Gone, Lazily, find_lazily};

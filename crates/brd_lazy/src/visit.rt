@@ -3,20 +3,20 @@
 ghost use Rattle.std.specs.Prelude.{◌≡◌, ◌<◌, suc, length, slice_get, IfOk, OnOk, Some, true, false};
 ghost use Rattle.brd_board.specs.declared.event.Event.TheVariants.{Step};
 ghost use Rattle.brd_board.specs.Board.{happens};
-ghost use Rattle.brd_explore.specs.Schedules.{does, next, is_left};
+ghost use Rattle.brd_explore.specs.Schedules.{Place as PlaceOf, does, next, is_left};
 ghost use Rattle.brd_lazy.specs.Blocks.{after_steps, end_of};
-ghost use Rattle.brd_lazy.specs.declared.spots.Spot.{Spot as SpotOf};
-ghost use Rattle.brd_lazy.specs.Finding.{IsKnown, IsMore, TriedSo, VisitedSo, place_of};
+ghost use Rattle.brd_lazy.specs.Spots.{spot_of};
+ghost use Rattle.brd_lazy.specs.Finding.{IsKnown, IsMore, TriedSo, VisitedSo};
 ghost use Rattle.brd_reach.specs.Rounds.{sharing_for};
 
 use crate::block::{Block, go};
 use crate::bounds::{affords, spent, stepper};
-use crate::spots::{Spot, note};
+use crate::spots::{Margin, Spots};
 use brd_base::NoMemory;
 use brd_blocks::{Sharing, stands_well};
 use brd_board::{Board, Event};
 use brd_explore::{Bounds, Wanted, did_nothing};
-use brd_reach::Unknown;
+use brd_reach::{Unknown, memory_of};
 
 /// What was tried at a place came to.
 #[derive(Clone, Copy, PartialEq, Eq)]
@@ -31,28 +31,31 @@ pub(crate) enum Tried {
     Unknown(Unknown),
 }
 
-/// Visits the place of an index: looks whether it fails, and tries all events that may come there.
+/// Visits the place of an index: looks whether it fails, and tries all events that may come there. `words` are the
+/// addresses of the words by whose values places are told from each other at first sight.
 pub(crate) fn visit(
-    spots: &mut Vec<Spot>,
+    spots: &mut Spots,
     at: usize,
     sharing: &Sharing,
+    words: &[u32],
     among: &[Event],
     wanted: &Wanted,
 ) -> Result<Tried, NoMemory>
-    requires { at < length spots.old.items }
-    ensures more { IsMore spots.old.items spots.new.items }
-    ensures so { (spot : SpotOf) → slice_get spots.old.items at ≡ Some spot →
-        IfOk result (VisitedSo (sharing_for sharing.now wanted.now) among.now wanted.now spots.new.items (place_of spot)) }
+    requires { at < length spots.old }
+    ensures more { IsMore spots.old spots.new }
+    ensures so { (p : PlaceOf) → slice_get spots.old at ≡ Some p →
+        IfOk result (VisitedSo (sharing_for sharing.now wanted.now) among.now wanted.now spots.new p) }
 {
-    let here = copy_of(&spots[at], at)?;
-    if wanted.fails_at(&here.board, here.left)? {
+    let board = spots.board(at)?;
+    let margin = spots.margin(at);
+    if wanted.fails_at(&board, margin.left)? {
         return Ok(Tried::Fails);
     }
     for event in among {
-        if !affords(here.left, here.last, *event) {
+        if !affords(margin.left, margin.last, *event) {
             continue;
         }
-        match try_event(spots, &here, sharing, wanted, *event)? {
+        match try_event(spots, at, &board, margin, sharing, words, wanted, *event)? {
             Tried::Done => {}
             Tried::Fails => return Ok(Tried::Fails),
             Tried::Strays(cpu, count) => return Ok(Tried::Strays(cpu, count)),
@@ -62,39 +65,30 @@ pub(crate) fn visit(
     Ok(Tried::Done)
 }
 
-/// A copy of a place, from which others will come.
-fn copy_of(spot: &Spot, at: usize) -> Result<Spot, NoMemory>
-    ensures { IfOk result (λ copy. place_of copy ≡ place_of spot.now) }
-{
-    Ok(Spot {
-        board: spot.board.try_copy()?,
-        left: spot.left,
-        last: spot.last,
-        from: at,
-        event: spot.event,
-        count: spot.count,
-    })
-}
-
-/// Tries an event at a place, for which something is left.
+/// Tries an event at the place of an index, for which something is left there.
 fn try_event(
-    spots: &mut Vec<Spot>,
-    here: &Spot,
+    spots: &mut Spots,
+    at: usize,
+    board: &Board,
+    margin: Margin,
     sharing: &Sharing,
+    words: &[u32],
     wanted: &Wanted,
     event: Event,
 ) -> Result<Tried, NoMemory>
-    ensures more { IsMore spots.old.items spots.new.items }
-    ensures so { IfOk result (TriedSo (sharing_for sharing.now wanted.now) spots.new.items (place_of here.now) event) }
+    requires { slice_get spots.old at ≡ Some (spot_of board.now margin) }
+    ensures more { IsMore spots.old spots.new }
+    ensures so { IfOk result
+        (TriedSo (sharing_for sharing.now wanted.now) spots.new (spot_of board.now margin) event) }
 {
     match event {
-        Event::Step(cpu) => try_step(spots, here, sharing, wanted, cpu),
+        Event::Step(cpu) => try_step(spots, at, board, margin, sharing, words, wanted, cpu),
         Event::Tick => {
-            try_other(spots, here, event)?;
+            try_other(spots, at, board, margin, words, event)?;
             Ok(Tried::Done)
         }
         Event::Raise(_) => {
-            try_other(spots, here, event)?;
+            try_other(spots, at, board, margin, words, event)?;
             Ok(Tried::Done)
         }
     }
@@ -102,90 +96,122 @@ fn try_event(
 
 /// Tries a block of a processor.
 fn try_step(
-    spots: &mut Vec<Spot>,
-    here: &Spot,
+    spots: &mut Spots,
+    at: usize,
+    board: &Board,
+    margin: Margin,
     sharing: &Sharing,
+    words: &[u32],
     wanted: &Wanted,
     cpu: u8,
 ) -> Result<Tried, NoMemory>
-    ensures more { IsMore spots.old.items spots.new.items }
+    requires { slice_get spots.old at ≡ Some (spot_of board.now margin) }
+    ensures more { IsMore spots.old spots.new }
     ensures so { IfOk result
-        (TriedSo (sharing_for sharing.now wanted.now) spots.new.items (place_of here.now) (Step cpu)) }
+        (TriedSo (sharing_for sharing.now wanted.now) spots.new (spot_of board.now margin) (Step cpu)) }
 {
-    if cpu == 0 || cpu > 8 || !stands_well(&here.board, cpu) {
+    if cpu == 0 || cpu > 8 || !stands_well(board, cpu) {
         return Ok(Tried::Unknown(Unknown::Waits));
     }
-    let mut board = here.board.try_copy()?;
-    match go(sharing, wanted, &mut board, cpu, here.left.events) {
-        Block::Idle if does_nothing(here, cpu)? => Ok(Tried::Done),
+    let mut last = board.try_copy()?;
+    match go(sharing, wanted, &mut last, cpu, margin.left.events) {
+        Block::Idle => {
+            if does_nothing(last, cpu) {
+                return Ok(Tried::Done);
+            }
+            Ok(Tried::Unknown(Unknown::Waits))
+        }
         Block::Alone => {
-            try_other(spots, here, Event::Step(cpu))?;
+            note_one(spots, at, margin, words, Event::Step(cpu), &last)?;
             Ok(Tried::Done)
         }
         Block::Ends(count) => {
-            note(spots, after_block(here, board, cpu, count))?;
+            note_block(spots, at, margin, words, cpu, count, &last)?;
             Ok(Tried::Done)
         }
         Block::Cut => Ok(Tried::Done),
         Block::Strays(count) => Ok(Tried::Strays(cpu, count)),
-        Block::Idle | Block::Unknown => Ok(Tried::Unknown(Unknown::Waits)),
-    }
-}
-
-/// Tries an event in which no agent executes an instruction.
-fn try_other(spots: &mut Vec<Spot>, here: &Spot, event: Event) -> Result<(), NoMemory>
-    ensures more { IsMore spots.old.items spots.new.items }
-    ensures known { does here.now.board event ≡ true →
-        OnOk result (IsKnown spots.new.items (next (place_of here.now) event)) }
-{
-    let mut board = here.board.try_copy()?;
-    if did_nothing(board.event_apart(event)) {
-        return Ok(());
-    }
-    note(spots, after_one(here, board, event))
-}
-
-/// The place after an event that has done something.
-fn after_one(here: &Spot, board: Board, event: Event) -> Spot
-    ensures { board ≡ (happens here.now.board event).board → place_of result ≡ next (place_of here.now) event }
-{
-    let last = stepper(&board, here.last, event);
-    Spot {
-        board,
-        left: spent(here.left, here.last, event),
-        last,
-        from: here.from,
-        event,
-        count: 1,
-    }
-}
-
-/// The place after a block: so many instructions that nobody else can see, and one that others may see.
-fn after_block(here: &Spot, board: Board, cpu: u8, count: u32) -> Spot
-    requires { count < here.now.left.events }
-    ensures { board ≡ after_steps here.now.board cpu (suc count) →
-        place_of result ≡ end_of (place_of here.now) cpu count }
-{
-    let event = Event::Step(cpu);
-    let last = stepper(&board, here.last, event);
-    let one = spent(here.left, here.last, event);
-    Spot {
-        board,
-        left: Bounds {
-            events: here.left.events - count - 1,
-            ..one
-        },
-        last,
-        from: here.from,
-        event,
-        count: count + 1,
+        Block::Unknown => Ok(Tried::Unknown(Unknown::Waits)),
     }
 }
 
 /// Whether the next step of a processor does nothing.
-fn does_nothing(here: &Spot, cpu: u8) -> Result<bool, NoMemory>
-    ensures { IfOk result (λ nothing. nothing ≡ true → does here.now.board (Step cpu) ≡ false) }
+fn does_nothing(board: Board, cpu: u8) -> bool
+    ensures { result ≡ true → does board (Step cpu) ≡ false }
 {
-    let mut board = here.board.try_copy()?;
-    Ok(did_nothing(board.event_apart(Event::Step(cpu))))
+    let mut board = board;
+    did_nothing(board.event_apart(Event::Step(cpu)))
+}
+
+/// Tries a tick, or a raise.
+fn try_other(
+    spots: &mut Spots,
+    at: usize,
+    board: &Board,
+    margin: Margin,
+    words: &[u32],
+    event: Event,
+) -> Result<(), NoMemory>
+    requires { slice_get spots.old at ≡ Some (spot_of board.now margin) }
+    ensures more { IsMore spots.old spots.new }
+    ensures known { does board.now event ≡ true →
+        OnOk result (IsKnown spots.new (next (spot_of board.now margin) event)) }
+{
+    let mut last = board.try_copy()?;
+    if did_nothing(last.event_apart(event)) {
+        return Ok(());
+    }
+    note_one(spots, at, margin, words, event, &last)
+}
+
+/// Adds the place after one event at the place of an index, unless it is known.
+fn note_one(
+    spots: &mut Spots,
+    at: usize,
+    margin: Margin,
+    words: &[u32],
+    event: Event,
+    board: &Board,
+) -> Result<(), NoMemory>
+    requires { at < length spots.old }
+    ensures more { IsMore spots.old spots.new }
+    ensures known { (p : PlaceOf) → slice_get spots.old at ≡ Some p → p ≡ spot_of p.board margin →
+        board.now ≡ (happens p.board event).board → OnOk result (IsKnown spots.new (next p event)) }
+{
+    let rest = Margin {
+        left: spent(margin.left, margin.last, event),
+        last: stepper(board, margin.last, event),
+    };
+    let mark = spots.mark_of(board, rest, memory_of(board, words));
+    spots.note(at, event, 1, board, rest, mark)
+}
+
+/// Adds the place after a block at the place of an index, unless it is known: so many instructions that nobody else can
+/// see, and one that others may see.
+fn note_block(
+    spots: &mut Spots,
+    at: usize,
+    margin: Margin,
+    words: &[u32],
+    cpu: u8,
+    count: u32,
+    board: &Board,
+) -> Result<(), NoMemory>
+    requires within { at < length spots.old }
+    requires few { count < margin.left.events }
+    ensures more { IsMore spots.old spots.new }
+    ensures known { (p : PlaceOf) → slice_get spots.old at ≡ Some p → p ≡ spot_of p.board margin →
+        board.now ≡ after_steps p.board cpu (suc count) → OnOk result (IsKnown spots.new (end_of p cpu count)) }
+{
+    let event = Event::Step(cpu);
+    let one = spent(margin.left, margin.last, event);
+    let rest = Margin {
+        left: Bounds {
+            events: margin.left.events - count - 1,
+            ..one
+        },
+        last: stepper(board, margin.last, event),
+    };
+    let mark = spots.mark_of(board, rest, memory_of(board, words));
+    spots.note(at, event, count + 1, board, rest, mark)
 }

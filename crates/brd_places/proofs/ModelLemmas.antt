@@ -25,6 +25,12 @@ there_same start spare board entries places i entry left same view has lefts mad
     subst (λ (ps : List Place). slice_get ps i ≡ Some (record { left = left; board = board })) view
     (is-there start entries i entry left board (sym has) lefts (sym made ∙ decides.0 is))
 
+pub board_same : (start spare board : BoardState) (entries : List Entry) (places : List Place) (i : ℕ) (place : Place) (same : Bool) →
+    places_of start entries ≡ places → slice_get places i ≡ Some place → spare ≡ board_at start (places_of start entries) i →
+    Decides same (spare ≡ board) → same ≡ true → place.board ≡ board
+board_same start spare board entries places i place same view there made decides is =
+    sym (place_board start spare entries places i place view there made) ∙ decides.0 is
+
 pub one_more : (start : BoardState) (entries new : List Entry) (places : List Place) (from parent count since kept : ℕ) (event : Event)
     (left : Left) (place : Place) → places_of start entries ≡ places → parent ≡ from →
     new ≡ entries ++ (record { parent = parent; event = event; count = count; left = left; since = since; kept = kept }) ∷ [] →

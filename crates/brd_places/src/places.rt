@@ -164,6 +164,33 @@ impl Places {
         Ok(self.spare.same(board))
     }
 
+    /// The last place that was added with this mark, if there is one.
+    pub fn first(&self, mark: u64) -> Option<usize> {
+        self.table.first(mark)
+    }
+
+    /// The place that was added last, before another one, with this mark, if there is one.
+    pub fn next(&self, i: usize, mark: u64) -> Option<usize> {
+        self.table.next(i, mark)
+    }
+
+    /// Whether the place of an index is this board, whatever is left there.
+    #[tactic(auto, using(crate::proofs::StepLemmas::alike_place, crate::proofs::ModelLemmas::board_same))]
+    pub fn has_board(&mut self, i: usize, board: &Board) -> Result<bool, NoMemory>
+        ensures same { self.new ≡ self.old }
+        ensures is { (place : Place) → slice_get self.old i ≡ Some place →
+            IfOk result (λ is. is ≡ true → place.board ≡ board.now) }
+    {
+        put_back(
+            &self.start,
+            self.entries.as_slice(),
+            self.kept.as_slice(),
+            i,
+            &mut self.spare,
+        )?;
+        Ok(self.spare.same(board))
+    }
+
     /// Adds the place to which one event n times leads from an earlier one, where so much is left. A refusal leaves
     /// all places as they are.
     #[tactic(auto, using(crate::proofs::ModelLemmas::one_more, crate::proofs::ModelLemmas::begins_more))]

@@ -157,7 +157,7 @@ fn guard_word(sharing: &mut Sharing, address: u32)
 }
 
 /// The addresses of the words that somebody may store to, or did.
-fn owned_words(alloc: Global, sharing: &Sharing, size: u32) -> Result<Vec<u32>, NoMemory> {
+pub fn owned_words(alloc: Global, sharing: &Sharing, size: u32) -> Result<Vec<u32>, NoMemory> {
     let mut words = Vec::new(alloc);
     for at in 0..size / 4 {
         let address = BASE.wrapping_add(at.wrapping_mul(4));

@@ -6,11 +6,11 @@ use Rattle.brd_lazy.specs.Finding.{RoundSo}
 use Rattle.brd_lazy.proofs.FindLemmas.{begins-known, holds-so}
 use Rattle.brd_lazy.proofs.finding.find_lazily.Goals as goal
 
-pub returns-in-Holds : goal.returns-in-Holds
-returns-in-Holds c =
-    holds-so (sharing_for c.loop.sharing c.args.wanted.now) c.args.among.now c.args.wanted.now c.visit_all.new.spots.items
+pub returns-in-Holds-clause-is : goal.returns-in-Holds-clause-is
+returns-in-Holds-clause-is g c =
+    holds-so (sharing_for c.loop.sharing c.args.wanted.now) c.args.among.now c.args.wanted.now c.visit_all.new.spots
     (start c.args.board.now c.args.bounds) (omega (arith, c.if-wanted-ne0.false)) (guards-so c.loop.sharing c.args.wanted.now c.loop.invariant)
-    (begins-known c.in_ok-spots.spots.items c.visit_all.new.spots.items (start c.args.board.now c.args.bounds) c.in_ok-spots.ensures
+    (begins-known c.in_ok-spots.spots c.visit_all.new.spots (start c.args.board.now c.args.bounds) c.in_ok-spots.ensures
     c.visit_all.ensures.more)
-    (subst (RoundSo (sharing_for c.loop.sharing c.args.wanted.now) c.args.among.now c.args.wanted.now c.visit_all.new.spots.items) c.in-Holds.is
+    (subst (RoundSo (sharing_for c.loop.sharing c.args.wanted.now) c.args.among.now c.args.wanted.now c.visit_all.new.spots) c.in-Holds.is
     c.in_ok-visit_all.ensures.so)

@@ -4,4 +4,4 @@ use Rattle.brd_reach.specs.Reaching.{AreGuarded}
 use Rattle.brd_lazy.proofs.finding.find_lazily.Given as goal
 
 abbrev pub invariant-loop : goal.invariant-loop
-invariant-loop l = AreGuarded (sharing_of l.sharing) l.wanted.failures
+invariant-loop g l = AreGuarded (sharing_of l.sharing) l.wanted.failures
