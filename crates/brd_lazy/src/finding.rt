@@ -21,6 +21,8 @@ use std::alloc::Global;
 pub struct Gone {
     /// Through how many.
     pub places: usize,
+    /// How many of them are ends.
+    pub ends: usize,
     /// How many preemptions were left at each. If any were, the bound on them has left nothing out.
     pub spare: u32,
 }
@@ -75,8 +77,10 @@ pub fn find_lazily<W: Watch>(
     for _ in 0..MOST_ROUNDS {
         let words = owned_words(alloc, &sharing, size)?;
         let mut spots = Spots::new(alloc, board, bounds)?;
+        let mut ends = 0usize;
         match visit_all(
             &mut spots,
+            &mut ends,
             &sharing,
             words.as_slice(),
             among,
@@ -84,7 +88,7 @@ pub fn find_lazily<W: Watch>(
             most,
             watch,
         )? {
-            Round::Holds => return Ok(Lazily::NoneFails(gone(&spots))),
+            Round::Holds => return Ok(Lazily::NoneFails(gone(&spots, ends))),
             Round::Fails(at) => return Ok(found(alloc, board, bounds, among, wanted, &spots, at)?),
             Round::Strays(at, cpu, count) => {
                 let place = spots.board(at)?;
@@ -97,9 +101,10 @@ pub fn find_lazily<W: Watch>(
 }
 
 /// Through how many places a search went, and what was left there.
-fn gone(spots: &Spots) -> Gone {
+fn gone(spots: &Spots, ends: usize) -> Gone {
     Gone {
         places: spots.len(),
+        ends,
         spare: spots.spare(),
     }
 }
@@ -107,6 +112,7 @@ fn gone(spots: &Spots) -> Gone {
 /// Visits places, and those to which events lead from them, until all have been visited or one fails; at most so many.
 fn visit_all<W: Watch>(
     spots: &mut Spots,
+    ends: &mut usize,
     sharing: &Sharing,
     words: &[u32],
     among: &[Event],
@@ -125,7 +131,7 @@ fn visit_all<W: Watch>(
         if !watch.tried(at as u64) {
             return Err(Halt::Stopped);
         }
-        match visit(spots, at, sharing, words, among, wanted)? {
+        match visit(spots, ends, at, sharing, words, among, wanted)? {
             Tried::Done => {}
             Tried::Fails => return Ok(Round::Fails(at)),
             Tried::Strays(cpu, count) => return Ok(Round::Strays(at, cpu, count)),

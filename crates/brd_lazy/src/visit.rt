@@ -15,7 +15,7 @@ use crate::spots::{Margin, Spots};
 use brd_base::NoMemory;
 use brd_blocks::{Sharing, stands_well};
 use brd_board::{Board, Event};
-use brd_explore::{Bounds, Wanted, did_nothing};
+use brd_explore::{Bounds, Wanted, did_nothing, is_end};
 use brd_reach::{Unknown, memory_of};
 
 /// What was tried at a place came to.
@@ -32,9 +32,10 @@ pub(crate) enum Tried {
 }
 
 /// Visits the place of an index: looks whether it fails, and tries all events that may come there. `words` are the
-/// addresses of the words by whose values places are told from each other at first sight.
+/// addresses of the words by whose values places are told from each other at first sight. Ends are counted.
 pub(crate) fn visit(
     spots: &mut Spots,
+    ends: &mut usize,
     at: usize,
     sharing: &Sharing,
     words: &[u32],
@@ -51,6 +52,7 @@ pub(crate) fn visit(
     if wanted.fails_at(&board, margin.left)? {
         return Ok(Tried::Fails);
     }
+    *ends = with_one(*ends, is_end(&board, margin.left)?);
     for event in among {
         if !affords(margin.left, margin.last, *event) {
             continue;
@@ -63,6 +65,11 @@ pub(crate) fn visit(
         }
     }
     Ok(Tried::Done)
+}
+
+/// So many ends, and one more, if there is one.
+fn with_one(ends: usize, one: bool) -> usize {
+    ends.saturating_add(usize::from(one))
 }
 
 /// Tries an event at the place of an index, for which something is left there.
