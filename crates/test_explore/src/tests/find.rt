@@ -349,9 +349,17 @@ fn lazy_search_of(alloc: Global, board: &Board, case: &Case) -> Told {
     let Some(wanted) = wanted_of(alloc, case) else {
         return Told::Nothing;
     };
-    match find_lazily(alloc, board, bounds_of(case), case.among, &wanted, 100_000) {
+    match find_lazily(
+        alloc,
+        board,
+        bounds_of(case),
+        case.among,
+        &wanted,
+        100_000,
+        &mut Nobody,
+    ) {
         Ok(Lazily::Found(_)) => Told::Fails,
-        Ok(Lazily::NoneFails) => Told::NoneFails,
+        Ok(Lazily::NoneFails(_)) => Told::NoneFails,
         Ok(Lazily::Unknown(_)) | Err(_) => Told::Nothing,
     }
 }
