@@ -17,13 +17,16 @@ pub place_board : (start board : BoardState) (entries : List Entry) (places : Li
 place_board start board entries places i place view is made =
     made ∙ board-got start (places_of start entries) i place (subst (λ (ps : List Place). slice_get ps i ≡ Some place) (sym view) is)
 
-pub there_same : (start spare board : BoardState) (entries : List Entry) (places : List Place) (i : ℕ) (entry : Entry) (left : Left) (same : Bool) →
+pub there_same : (start board : BoardState) (entries : List Entry) (places : List Place) (i : ℕ) (entry : Entry) (left : Left) →
     places_of start entries ≡ places → Some entry ≡ slice_get entries i → entry.left ≡ left →
-    spare ≡ board_at start (places_of start entries) i → Decides same (spare ≡ board) → same ≡ true →
+    ((place : Place) → slice_get places i ≡ Some place → place.board ≡ board) →
     slice_get places i ≡ Some (record { left = left; board = board })
-there_same start spare board entries places i entry left same view has lefts made decides is =
-    subst (λ (ps : List Place). slice_get ps i ≡ Some (record { left = left; board = board })) view
-    (is-there start entries i entry left board (sym has) lefts (sym made ∙ decides.0 is))
+there_same start board entries places i entry left view has lefts same =
+    let b : BoardState = board_at start (places_of start entries) i in
+    let there : slice_get places i ≡ Some (record { left = left; board = b }) =
+    subst (λ (ps : List Place). slice_get ps i ≡ Some (record { left = left; board = b })) view
+    (is-there start entries i entry left b (sym has) lefts refl) in
+    there ∙ ap (λ (c : BoardState). Some (record { left = left; board = c })) (same (record { left = left; board = b }) there)
 
 pub board_same : (start spare board : BoardState) (entries : List Entry) (places : List Place) (i : ℕ) (place : Place) (same : Bool) →
     places_of start entries ≡ places → slice_get places i ≡ Some place → spare ≡ board_at start (places_of start entries) i →

@@ -142,7 +142,6 @@ impl Places {
     }
 
     /// Whether the place of an index is this board, where just so much is left.
-    #[tactic(auto, using(crate::proofs::StepLemmas::alike_place, crate::proofs::ModelLemmas::there_same))]
     fn is_at(&mut self, i: usize, board: &Board, left: Left) -> Result<bool, NoMemory>
         ensures same { self.new ≡ self.old }
         ensures is { IfOk result (λ is. is ≡ true →
@@ -154,14 +153,7 @@ impl Places {
         if entry.left != left {
             return Ok(false);
         }
-        put_back(
-            &self.start,
-            self.entries.as_slice(),
-            self.kept.as_slice(),
-            i,
-            &mut self.spare,
-        )?;
-        Ok(self.spare.same(board))
+        self.has_board(i, board)
     }
 
     /// The last place that was added with this mark, if there is one.
