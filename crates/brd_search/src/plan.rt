@@ -173,11 +173,11 @@ fn lazy_fits(options: &SearchOptions<'_>) -> bool
 fn is_simple(options: &SearchOptions<'_>) -> bool
     ensures { result ≡ is_simple options.now }
 {
-    options.sizes.fair == 0
+    options.shard.is_none()
+        && options.sizes.fair == 0
         && options.remember == 0
         && options.threads == 0
         && options.places == 0
-        && options.shard.is_none()
 }
 
 /// Whether options ask for nothing that a search without bounds doesn't know.
