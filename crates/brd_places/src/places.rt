@@ -202,7 +202,7 @@ impl Places {
             return Err(NoMemory);
         };
         self.table.make_room()?;
-        let since = since_after(self.entries.as_slice(), from);
+        let since = since_after(self.entries.as_slice(), from, count);
         let entry = Entry {
             parent,
             event,
