@@ -88,7 +88,7 @@ pub fn find_lazily<W: Watch>(
             most,
             watch,
         )? {
-            Round::Holds => return Ok(Lazily::NoneFails(gone(&spots, ends))),
+            Round::Holds => return Ok(Lazily::NoneFails(how_far(&spots, ends))),
             Round::Fails(at) => return Ok(found(alloc, board, bounds, among, wanted, &spots, at)?),
             Round::Strays(at, cpu, count) => {
                 let place = spots.board(at)?;
@@ -101,7 +101,7 @@ pub fn find_lazily<W: Watch>(
 }
 
 /// Through how many places a search went, and what was left there.
-fn gone(spots: &Spots, ends: usize) -> Gone {
+fn how_far(spots: &Spots, ends: usize) -> Gone {
     Gone {
         places: spots.len(),
         ends,
