@@ -5,3 +5,4 @@ pub mod ChargeLemmas
 pub mod ScheduleLemmas
 pub mod FindLemmas
 pub mod SpotLemmas
+pub mod LoopLemmas

@@ -42,6 +42,11 @@ WentSo by b cpu most new block.Cut = AreHidden by b cpu most
 WentSo by b cpu most new (block.Strays count) = Unit {0}
 WentSo by b cpu most new block.Unknown = Unit {0}
 
+-- a block that has had so many instructions, all of them invisible, unless it came to something before
+abbrev pub WalkedTo : Sharing → BoardState → ℕ → ℕ → ℕ → BoardState → Option Block → Type 0
+WalkedTo by b cpu upto most new None = HasWalked by b cpu upto new
+WalkedTo by b cpu upto most new (Some came) = WentSo by b cpu most new came
+
 -- one that has ended has done so within so many steps
 abbrev pub EndsWithin : ℕ → Block → Type 0
 EndsWithin most (block.Ends count) = count < most

@@ -1,9 +1,13 @@
 //! Blocks: invisible instructions of a processor, and one that others may see.
 
+ghost use Rattle.std.specs.Prelude.{◌≡◌, ◌≤◌, IfOk, IfSome, ℕ as Nat};
 ghost use Rattle.brd_link.specs.LinkSet.{IsLinkSet};
+ghost use Rattle.brd_board.specs.Board.{BoardState as BoardOf};
+ghost use Rattle.brd_lazy.specs.declared.block.Block.TheVariants as block;
 ghost use Rattle.brd_reach.specs.Rounds.{sharing_for};
-ghost use Rattle.brd_lazy.specs.Finding.{EndsWithin, WentSo};
+ghost use Rattle.brd_lazy.specs.Finding.{EndsWithin, HasWalked, WalkedTo, WentSo};
 
+use brd_base::NoMemory;
 use brd_blocks::{Sharing, Stepped};
 use brd_board::Board;
 use brd_explore::Wanted;
@@ -26,10 +30,39 @@ pub(crate) enum Block {
     Unknown,
 }
 
+/// How many instructions a block has before the first board is kept to which it may come back (own choice).
+const FEW_STEPS: u32 = 1_024;
+
+/// How many boards are kept at most, each twice as many instructions after the beginning as the one before it: enough
+/// for as many steps as there may be.
+const MOST_KEPT: u32 = 32;
+
 /// Lets a processor do a block, of at most so many steps.
-pub(crate) fn go(sharing: &Sharing, wanted: &Wanted, board: &mut Board, cpu: u8, most: u32) -> Block
+pub(crate) fn go(
+    sharing: &Sharing,
+    wanted: &Wanted,
+    board: &mut Board,
+    cpu: u8,
+    most: u32,
+) -> Result<Block, NoMemory>
+    ensures is { IsLinkSet board.old.links →
+        IfOk result (WentSo (sharing_for sharing.now wanted.now) board.old cpu most board.new) }
+    ensures few { IfOk result (EndsWithin most) }
+{
+    let few = most.min(FEW_STEPS);
+    let came = go_few(sharing, wanted, board, cpu, few);
+    if few == most || came != Block::Cut {
+        return Ok(came);
+    }
+    go_far(sharing, wanted, board, cpu, few, most)
+}
+
+/// Lets a processor do a block, of at most so many steps, without looking whether it comes back.
+fn go_few(sharing: &Sharing, wanted: &Wanted, board: &mut Board, cpu: u8, most: u32) -> Block
     ensures is { IsLinkSet board.old.links →
         WentSo (sharing_for sharing.now wanted.now) board.old cpu most board.new result }
+    ensures walked { result ≡ block.Cut → IsLinkSet board.old.links →
+        HasWalked (sharing_for sharing.now wanted.now) board.old cpu most board.new }
     ensures few { EndsWithin most result }
 {
     for at in 0..most {
@@ -44,4 +77,65 @@ pub(crate) fn go(sharing: &Sharing, wanted: &Wanted, board: &mut Board, cpu: u8,
         }
     }
     Block::Cut
+}
+
+/// Lets a processor go on with a block that has had so many instructions, all of them invisible, up to so many.
+fn go_far(
+    sharing: &Sharing,
+    wanted: &Wanted,
+    board: &mut Board,
+    cpu: u8,
+    count: u32,
+    most: u32,
+) -> Result<Block, NoMemory>
+    ensures is { (b : BoardOf) → HasWalked (sharing_for sharing.now wanted.now) b cpu count board.old →
+        IfOk result (WentSo (sharing_for sharing.now wanted.now) b cpu most board.new) }
+    ensures few { IfOk result (EndsWithin most) }
+{
+    let mut done = count;
+    for _ in 0..MOST_KEPT {
+        if done >= most {
+            return Ok(Block::Cut);
+        }
+        let upto = done.saturating_mul(2).max(done).min(most);
+        let kept = board.try_copy()?;
+        if let Some(block) = go_to(sharing, wanted, &kept, board, cpu, done, upto) {
+            return Ok(block);
+        }
+        done = upto;
+    }
+    Ok(Block::Unknown)
+}
+
+/// Lets a processor go on with a block until it has had so many instructions: what the block came to, if it ended, or if
+/// it came back to the board that was kept.
+fn go_to(
+    sharing: &Sharing,
+    wanted: &Wanted,
+    kept: &Board,
+    board: &mut Board,
+    cpu: u8,
+    count: u32,
+    upto: u32,
+) -> Option<Block>
+    requires { count ≤ upto }
+    ensures is { (b : BoardOf) (most : Nat) → upto ≤ most →
+        HasWalked (sharing_for sharing.now wanted.now) b cpu count kept.now →
+        HasWalked (sharing_for sharing.now wanted.now) b cpu count board.old →
+        WalkedTo (sharing_for sharing.now wanted.now) b cpu upto most board.new result }
+    ensures few { IfSome result (EndsWithin upto) }
+{
+    let registers = kept.registers(cpu);
+    for at in count..upto {
+        match step(sharing, wanted, board, cpu) {
+            Stepped::Invisible => {}
+            Stepped::Visible => return Some(Block::Ends(at)),
+            Stepped::Strays => return Some(Block::Strays(at)),
+            Stepped::Off | Stepped::Nothing | Stepped::Accepted => return Some(Block::Unknown),
+        }
+        if board.registers(cpu) == registers && board.same(kept) {
+            return Some(Block::Cut);
+        }
+    }
+    None
 }

@@ -121,7 +121,7 @@ fn try_step(
         return Ok(Tried::Unknown(Unknown::Waits));
     }
     let mut last = board.try_copy()?;
-    match go(sharing, wanted, &mut last, cpu, margin.left.events) {
+    match go(sharing, wanted, &mut last, cpu, margin.left.events)? {
         Block::Idle => {
             if does_nothing(last, cpu) {
                 return Ok(Tried::Done);

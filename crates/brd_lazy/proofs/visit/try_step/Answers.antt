@@ -8,6 +8,7 @@ use Rattle.brd_frames.specs.Reducing.{IsQuiet}
 use Rattle.brd_reach.specs.Rounds.{sharing_for}
 use Rattle.brd_lazy.specs.Blocks.{after_steps, AreHidden, IsBlock}
 use Rattle.brd_lazy.specs.Spots.{spot_of}
+use Rattle.brd_lazy.specs.Finding.{EndsWithin, WentSo}
 use Rattle.brd_lazy.proofs.FindLemmas.{at-within, block-leads}
 use Rattle.brd_lazy.proofs.visit.try_step.Goals as goal
 
@@ -18,13 +19,14 @@ pub note_block-in-Ends-requires-clause-within : goal.note_block-in-Ends-requires
 note_block-in-Ends-requires-clause-within c = at-within c.args.spots.now c.args.at (spot_of c.args.board.now c.args.margin) c.requires
 
 pub note_block-in-Ends-requires-clause-few : goal.note_block-in-Ends-requires-clause-few
-note_block-in-Ends-requires-clause-few c = c.in-Ends.ensures.few
+note_block-in-Ends-requires-clause-few c = subst (EndsWithin c.args.margin.left.events) c.in-Ends.is c.in_ok-go.ensures.few
 
 pub returns-then-does_nothing-in-Idle-clause-so : goal.returns-then-does_nothing-in-Idle-clause-so
 returns-then-does_nothing-in-Idle-clause-so c = λ set.
+    let by = sharing_for c.args.sharing.now c.args.wanted.now in
     let same = c.in_ok-last.ensures in
     let there = subst (λ (b : BoardState). IsLinkSet b.links) (sym same) set in
-    let went = c.in-Idle.ensures.is there in (
+    let went = subst (WentSo by c.in_ok-last.last c.args.cpu c.args.margin.left.events c.go.new.board) c.in-Idle.is (c.in_ok-go.ensures.is there) in (
       omega (arith, c.if-cpu-eq0.false),
       omega (arith, c.if-cpu-gt8.false),
       c.stands_well.ensures.well c.if-not-stands_well.false,
@@ -36,9 +38,10 @@ returns-then-does_nothing-in-Idle-clause-so c = λ set.
 
 pub returns-in_ok-note_one-in-Alone-clause-so : goal.returns-in_ok-note_one-in-Alone-clause-so
 returns-in_ok-note_one-in-Alone-clause-so c = λ set.
+    let by = sharing_for c.args.sharing.now c.args.wanted.now in
     let same = c.in_ok-last.ensures in
     let there = subst (λ (b : BoardState). IsLinkSet b.links) (sym same) set in
-    let went = c.in-Alone.ensures.is there in (
+    let went = subst (WentSo by c.in_ok-last.last c.args.cpu c.args.margin.left.events c.go.new.board) c.in-Alone.is (c.in_ok-go.ensures.is there) in (
       omega (arith, c.if-cpu-eq0.false),
       omega (arith, c.if-cpu-gt8.false),
       c.stands_well.ensures.well c.if-not-stands_well.false,
@@ -55,7 +58,7 @@ returns-in_ok-note_block-in-Ends-clause-so c = λ set.
     let p = spot_of c.args.board.now c.args.margin in
     let same = c.in_ok-last.ensures in
     let there = subst (λ (b : BoardState). IsLinkSet b.links) (sym same) set in
-    let went = c.in-Ends.ensures.is there in
+    let went = subst (WentSo by c.in_ok-last.last c.args.cpu c.args.margin.left.events c.go.new.board) c.in-Ends.is (c.in_ok-go.ensures.is there) in
     let block = subst (λ (b : BoardState). IsBlock by b c.args.cpu c.in-Ends.count) same went.1 in
     let leads = subst (λ (b : BoardState). c.go.new.board ≡ after_steps b c.args.cpu (suc c.in-Ends.count)) same went.2 in (
       omega (arith, c.if-cpu-eq0.false),
@@ -77,5 +80,5 @@ returns-in-Cut-clause-so c = λ set.
       omega (arith, c.if-cpu-eq0.false),
       omega (arith, c.if-cpu-gt8.false),
       c.stands_well.ensures.well c.if-not-stands_well.false,
-      inr (inr (inr (subst (λ (b : BoardState). AreHidden by b c.args.cpu c.args.margin.left.events) same (c.in-Cut.ensures.is there)))),
+      inr (inr (inr (subst (λ (b : BoardState). AreHidden by b c.args.cpu c.args.margin.left.events) same (subst (WentSo by c.in_ok-last.last c.args.cpu c.args.margin.left.events c.go.new.board) c.in-Cut.is (c.in_ok-go.ensures.is there))))),
     )

@@ -2,7 +2,7 @@
 use Rattle.brd_link.specs.LinkSet.{IsLinkSet}
 use Rattle.brd_reach.specs.Rounds.{sharing_for}
 use Rattle.brd_lazy.specs.Finding.{HasWalked}
-use Rattle.brd_lazy.proofs.block.go.Given as goal
+use Rattle.brd_lazy.proofs.block.go_few.Given as goal
 
 abbrev pub invariant-loop-at : goal.invariant-loop-at
 invariant-loop-at l =
