@@ -3,7 +3,7 @@
 ghost use Rattle.std.specs.Prelude.{◌<◌};
 
 use super::sources::{
-    APART, DEADLOCK, LOOP, LOST_UPDATE, PETERSON, PETERSON_SWAPPED, REPAIRED, TWO,
+    APART, DEADLOCK, LONG, LOOP, LOST_UPDATE, PETERSON, PETERSON_SWAPPED, REPAIRED, TWO,
 };
 use brd_base::List;
 use brd_board::{Board, Event};
@@ -394,6 +394,35 @@ fn first_wrong_lazily(alloc: Global) -> Option<usize> {
 #[test]
 fn lazy_searches_agree(rt: HostRuntime) -> Result<(), Fail> {
     none_wrong(first_wrong_lazily(rt.alloc()))
+}
+
+/// Schedules of some 1,100 events a task with two preemptions, of which there are more than 600,000.
+const LONG_ONE: &Case = &Case {
+    source: LONG,
+    config: TWO,
+    bounds: (2_500, 2, 0),
+    among: BOTH,
+    wrong: Wrong::Count(20),
+    rounds: 0,
+    answer: Told::NoneFails,
+};
+
+/// Both go on for ever by instructions that nobody else can see.
+const ENDLESS: &Case = &Case {
+    source: LOOP,
+    config: TWO,
+    bounds: (1_000_000, 2, 0),
+    among: BOTH,
+    wrong: Wrong::Deadlock,
+    rounds: 0,
+    answer: Told::NoneFails,
+};
+
+/// Lazy searches come to an answer where others would take minutes, or days.
+#[test]
+fn long_programs_are_searched_lazily(rt: HostRuntime) {
+    assert!(rt; goes_well_lazily(rt.alloc(), LONG_ONE));
+    assert!(rt; goes_well_lazily(rt.alloc(), ENDLESS));
 }
 
 /// The stack doesn't grow with the events of a schedule.
