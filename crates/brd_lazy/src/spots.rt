@@ -1,7 +1,7 @@
 //! The places through which a lazy search goes.
 
 ghost use Rattle.std.specs.Prelude.{◌≡◌, ◌<◌, ◌++◌, ◌∷◌, [], length, replicate, slice_get, true, Some};
-ghost use Rattle.std.specs.Prelude.{IfOk, OnOk, OnErr};
+ghost use Rattle.std.specs.Prelude.{IfOk, IfSome, OnOk, OnErr};
 ghost use Rattle.brd_board.specs.Board.{BoardState as BoardOf, after};
 ghost use Rattle.brd_explore.specs.Schedules.{IsRicher, Place as PlaceOf, start};
 ghost use Rattle.brd_lazy.specs.Spots.{spot_of};
@@ -87,12 +87,15 @@ impl Spots {
         self.boards.board(i)
     }
 
-    /// What the place of an index has beside its board.
-    pub fn margin(&self, i: usize) -> Margin
-        requires { i < length self.now }
-        ensures { (p : PlaceOf) → slice_get self.now i ≡ Some p → spot_of p.board result ≡ p }
+    /// What the place of an index has beside its board, if there is one.
+    pub fn margin(&self, i: usize) -> Option<Margin>
+        ensures { (p : PlaceOf) → slice_get self.now i ≡ Some p →
+            IfSome result (λ margin. spot_of p.board margin ≡ p) }
     {
-        self.margins[i]
+        if i < self.margins.len() {
+            return Some(self.margins[i]);
+        }
+        None
     }
 
     /// The least number of preemptions that is left at a place.

@@ -48,7 +48,9 @@ pub(crate) fn visit(
         IfOk result (VisitedSo (sharing_for sharing.now wanted.now) among.now wanted.now spots.new p) }
 {
     let board = spots.board(at)?;
-    let margin = spots.margin(at);
+    let Some(margin) = spots.margin(at) else {
+        return Ok(Tried::Unknown(Unknown::Waits));
+    };
     if wanted.fails_at(&board, margin.left)? {
         return Ok(Tried::Fails);
     }
