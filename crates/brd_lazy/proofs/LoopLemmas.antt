@@ -1,12 +1,12 @@
 -- Walks that come back to a board at which they were before: no instruction of theirs is ever visible.
-use Rattle.std.proofs.Common.{◌≡◌, ℕ, zero, suc, ◌+◌, ◌<◌, ◌≤◌, ◌⊎◌, inl, inr, refl, sym, ap, subst, ◌∙◌, arith}
+use Rattle.std.proofs.Common.{◌≡◌, ℕ, zero, suc, ◌+◌, ◌<◌, ◌≤◌, ◌⊎◌, inl, inr, sym, ap, subst, ◌∙◌, arith}
 use Rattle.brd_board.specs.declared.event.Event.TheVariants.{Step}
 use Rattle.brd_board.specs.Board.{BoardState, happens}
 use Rattle.brd_frames.specs.Lagging.{Sharing}
 use Rattle.brd_blocks.specs.Stepping.{IsHidden}
 use Rattle.brd_reach.proofs.WalkLemmas.{plus-suc, plus-zero}
 use Rattle.brd_lazy.specs.Blocks.{after_steps, AreHidden}
-use Rattle.brd_lazy.specs.Finding.{HasWalked, WentSo}
+use Rattle.brd_lazy.specs.Finding.{EndsWithin, HasWalked}
 use Rattle.brd_lazy.specs.declared.block.Block.{Block}
 use Rattle.brd_lazy.specs.declared.block.Block.TheVariants as block
 
@@ -48,12 +48,11 @@ pub walk-cut : (by : Sharing) (b : BoardState) (cpu count : ℕ) (middle : Board
     HasWalked by b cpu count middle → AreHidden by b cpu most
 walk-cut by b cpu count middle most enough walked n below = walked.hidden n (omega (arith, enough, below))
 
--- What a block of a few steps came to it comes to of more, too.
-pub went-more : (by : Sharing) (b : BoardState) (cpu few most : ℕ) (new : BoardState) (came : Block) → (came ≡ block.Cut → ⊥) → few ≤ most →
-    WentSo by b cpu few new came → WentSo by b cpu most new came
-went-more by b cpu few most new block.Idle cut more went = went
-went-more by b cpu few most new block.Alone cut more went = went
-went-more by b cpu few most new (block.Ends count) cut more went = (omega (arith, more, went.0), went.1, went.2)
-went-more by b cpu few most new block.Cut cut more went = absurd (cut refl)
-went-more by b cpu few most new (block.Strays count) cut more went = went
-went-more by b cpu few most new block.Unknown cut more went = went
+-- One that has ended within a few steps has done so within more.
+pub ends-more : (few most : ℕ) (came : Block) → few ≤ most → EndsWithin few came → EndsWithin most came
+ends-more few most block.Idle more ends = tt
+ends-more few most block.Alone more ends = tt
+ends-more few most (block.Ends count) more ends = omega (arith, more, ends)
+ends-more few most block.Cut more ends = tt
+ends-more few most (block.Strays count) more ends = tt
+ends-more few most block.Unknown more ends = tt

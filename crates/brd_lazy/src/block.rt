@@ -1,9 +1,8 @@
 //! Blocks: invisible instructions of a processor, and one that others may see.
 
-ghost use Rattle.std.specs.Prelude.{◌≡◌, ◌≤◌, IfOk, IfSome, ℕ as Nat};
+ghost use Rattle.std.specs.Prelude.{◌≤◌, IfOk, IfSome, ℕ as Nat};
 ghost use Rattle.brd_link.specs.LinkSet.{IsLinkSet};
 ghost use Rattle.brd_board.specs.Board.{BoardState as BoardOf};
-ghost use Rattle.brd_lazy.specs.declared.block.Block.TheVariants as block;
 ghost use Rattle.brd_reach.specs.Rounds.{sharing_for};
 ghost use Rattle.brd_lazy.specs.Finding.{EndsWithin, HasWalked, WalkedTo, WentSo};
 
@@ -49,34 +48,46 @@ pub(crate) fn go(
         IfOk result (WentSo (sharing_for sharing.now wanted.now) board.old cpu most board.new) }
     ensures few { IfOk result (EndsWithin most) }
 {
-    let few = most.min(FEW_STEPS);
-    let came = go_few(sharing, wanted, board, cpu, few);
-    if few == most || came != Block::Cut {
-        return Ok(came);
+    let few = first_stop(most);
+    if let Some(block) = go_few(sharing, wanted, board, cpu, few) {
+        return Ok(block);
     }
     go_far(sharing, wanted, board, cpu, few, most)
 }
 
-/// Lets a processor do a block, of at most so many steps, without looking whether it comes back.
-fn go_few(sharing: &Sharing, wanted: &Wanted, board: &mut Board, cpu: u8, most: u32) -> Block
-    ensures is { IsLinkSet board.old.links →
-        WentSo (sharing_for sharing.now wanted.now) board.old cpu most board.new result }
-    ensures walked { result ≡ block.Cut → IsLinkSet board.old.links →
-        HasWalked (sharing_for sharing.now wanted.now) board.old cpu most board.new }
-    ensures few { EndsWithin most result }
+/// After how many instructions the first board is kept.
+fn first_stop(most: u32) -> u32
+    ensures { result ≤ most }
 {
-    for at in 0..most {
+    most.min(FEW_STEPS)
+}
+
+/// After how many instructions the next board is kept, where the last one was kept after so many.
+fn next_stop(done: u32, most: u32) -> u32
+    ensures low { done ≤ most → done ≤ result }
+    ensures high { result ≤ most }
+{
+    done.saturating_mul(2).max(done).min(most)
+}
+
+/// Lets a processor do the first steps of a block: what it came to, if it ended.
+fn go_few(sharing: &Sharing, wanted: &Wanted, board: &mut Board, cpu: u8, few: u32) -> Option<Block>
+    ensures is { (most : Nat) → few ≤ most → IsLinkSet board.old.links →
+        WalkedTo (sharing_for sharing.now wanted.now) board.old cpu few most board.new result }
+    ensures few { IfSome result (EndsWithin few) }
+{
+    for at in 0..few {
         match step(sharing, wanted, board, cpu) {
             Stepped::Invisible => {}
-            Stepped::Visible => return Block::Ends(at),
-            Stepped::Strays => return Block::Strays(at),
-            Stepped::Accepted if at == 0 => return Block::Alone,
-            Stepped::Off if at == 0 => return Block::Idle,
-            Stepped::Nothing if at == 0 => return Block::Idle,
-            Stepped::Off | Stepped::Nothing | Stepped::Accepted => return Block::Unknown,
+            Stepped::Visible => return Some(Block::Ends(at)),
+            Stepped::Strays => return Some(Block::Strays(at)),
+            Stepped::Accepted if at == 0 => return Some(Block::Alone),
+            Stepped::Off if at == 0 => return Some(Block::Idle),
+            Stepped::Nothing if at == 0 => return Some(Block::Idle),
+            Stepped::Off | Stepped::Nothing | Stepped::Accepted => return Some(Block::Unknown),
         }
     }
-    Block::Cut
+    None
 }
 
 /// Lets a processor go on with a block that has had so many instructions, all of them invisible, up to so many.
@@ -97,7 +108,7 @@ fn go_far(
         if done >= most {
             return Ok(Block::Cut);
         }
-        let upto = done.saturating_mul(2).max(done).min(most);
+        let upto = next_stop(done, most);
         let kept = board.try_copy()?;
         if let Some(block) = go_to(sharing, wanted, &kept, board, cpu, done, upto) {
             return Ok(block);
