@@ -12,17 +12,17 @@ use Rattle.brd_lazy.specs.Finding.{EndsWithin, WentSo}
 use Rattle.brd_lazy.proofs.FindLemmas.{at-within, block-leads}
 use Rattle.brd_lazy.proofs.visit.try_step.Goals as goal
 
-pub note_one-in-Alone-requires : goal.note_one-in-Alone-requires
-note_one-in-Alone-requires c = at-within c.args.spots.now c.args.at (spot_of c.args.board.now c.args.margin) c.requires
+pub note_one-requires : goal.note_one-requires
+note_one-requires c = at-within c.args.spots.now c.args.at (spot_of c.args.board.now c.args.margin) c.requires
 
-pub note_block-in-Ends-requires-clause-within : goal.note_block-in-Ends-requires-clause-within
-note_block-in-Ends-requires-clause-within c = at-within c.args.spots.now c.args.at (spot_of c.args.board.now c.args.margin) c.requires
+pub note_block-requires-clause-within : goal.note_block-requires-clause-within
+note_block-requires-clause-within c = at-within c.args.spots.now c.args.at (spot_of c.args.board.now c.args.margin) c.requires
 
-pub note_block-in-Ends-requires-clause-few : goal.note_block-in-Ends-requires-clause-few
-note_block-in-Ends-requires-clause-few c = subst (EndsWithin c.args.margin.left.events) c.in-Ends.is c.in_ok-go.ensures.few
+pub note_block-requires-clause-few : goal.note_block-requires-clause-few
+note_block-requires-clause-few c = subst (EndsWithin c.args.margin.left.events) c.in-Ends.is c.in_ok-go.ensures.few
 
-pub returns-then-does_nothing-in-Idle-clause-so : goal.returns-then-does_nothing-in-Idle-clause-so
-returns-then-does_nothing-in-Idle-clause-so c = λ set.
+pub returns-then-does_nothing-clause-so : goal.returns-then-does_nothing-clause-so
+returns-then-does_nothing-clause-so c = λ set.
     let by = sharing_for c.args.sharing.now c.args.wanted.now in
     let same = c.in_ok-last.ensures in
     let there = subst (λ (b : BoardState). IsLinkSet b.links) (sym same) set in
