@@ -1,6 +1,6 @@
 -- What a search through places has done makes a lazy tree of which no place fails.
-use Rattle.std.proofs.Common.{◌≡◌, ℕ, zero, suc, ◌+◌, ◌<◌, ◌≤◌, ◌⊎◌, inl, inr, Bool, true, false, List, [], ◌∷◌, ◌++◌, length, refl, sym, ap, subst, ◌∙◌, arith}
-use Rattle.std.specs.Prelude.{◌-◌, not, if◌then◌else◌, replicate, take, get_or, slice_get, Option, Some, None}
+use Rattle.std.proofs.Common.{◌≡◌, ℕ, zero, suc, ◌+◌, ◌<◌, ◌≤◌, ◌⊎◌, inl, inr, Bool, true, List, [], ◌∷◌, ◌++◌, length, refl, sym, ap, subst, ◌∙◌, arith}
+use Rattle.std.specs.Prelude.{◌-◌, not, if◌then◌else◌, replicate, take, get_or, slice_get, Option, Some}
 use Rattle.std.proofs.lemmas.Bool.{cases_Bool, false≢true}
 use Rattle.std.proofs.lemmas.List.{append_assoc, append-nil, take_more, take_all, get_or_default}
 use Rattle.std.proofs.lemmas.Option.{slice_get_within}
@@ -25,14 +25,14 @@ use Rattle.brd_frames.specs.Lagging.{Sharing, IsInvisible}
 use Rattle.brd_frames.specs.Reducing.{IsQuiet}
 use Rattle.brd_frames.proofs.StepLemmas.{left_by, step-is}
 use Rattle.brd_frames.proofs.ReduceLemmas.{like-invisible}
-use Rattle.brd_blocks.specs.Stepping.{AllStandWell, IsHidden, IsVisible}
+use Rattle.brd_blocks.specs.Stepping.{IsHidden, IsVisible}
 use Rattle.brd_blocks.proofs.LinkLemmas.{stays-set}
 use Rattle.brd_reach.specs.Reaching.{Guards}
 use Rattle.brd_reach.proofs.WalkLemmas.{next-one, next-loud, after-more}
 use Rattle.brd_lazy.specs.declared.spots.Margin.{Margin}
 use Rattle.brd_lazy.specs.Spots.{spot_of}
-use Rattle.brd_lazy.specs.Blocks.{after_steps, end_of, AreHidden, IsBlock, MayCome, IsKept}
-use Rattle.brd_lazy.specs.Trees.{IsCovered, IsLazyTree, IsFine}
+use Rattle.brd_lazy.specs.Blocks.{after_steps, end_of, AreHidden, IsBlock, MayCome}
+use Rattle.brd_lazy.specs.Trees.{IsCovered, IsLazyTree}
 use Rattle.brd_lazy.specs.Finding.{HasWalked, IsIn, IsMore, IsKnown, HasGone, HasTried, HaveTried, IsDone, AreDone}
 use Rattle.brd_lazy.proofs.StepLemmas.{ends-at, hidden-more}
 use Rattle.brd_lazy.proofs.RoomLemmas.{some-events}

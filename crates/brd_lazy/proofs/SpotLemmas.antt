@@ -1,12 +1,10 @@
 -- Places as a search keeps them.
 use Rattle.std.proofs.Common.{◌≡◌, ℕ, zero, suc, ◌<◌, List, [], ◌∷◌, ◌++◌, length, refl, sym, ap, subst, ◌∙◌, arith, length-append}
-use Rattle.std.specs.Prelude.{◌-◌, take, slice_get, Some, Bool, true, false, Result, Ok, Err, is_err, IfOk, OnOk, OnErr, replicate}
+use Rattle.std.specs.Prelude.{◌-◌, take, slice_get, Some, Bool, true, false, Result, Ok, Err, is_err, IfOk, OnOk, OnErr}
 use Rattle.std.proofs.lemmas.List.{take_at}
 use Rattle.std.proofs.lemmas.Bool.{false≢true}
-use Rattle.std.proofs.lemmas.Option.{slice_get_within}
 use Rattle.brd_base.specs.declared.no_memory.NoMemory.{NoMemory}
-use Rattle.brd_board.specs.declared.event.Event.{Event}
-use Rattle.brd_board.specs.Board.{BoardState, after}
+use Rattle.brd_board.specs.Board.{BoardState}
 use Rattle.brd_explore.specs.Schedules.{Place, IsRicher}
 use Rattle.brd_places.specs.Places as kept
 use Rattle.brd_lazy.specs.declared.spots.Margin.{Margin}

@@ -1,13 +1,12 @@
 -- What a lazy search has done. (Contracts of private functions alone name this, but `FoundSo`.)
-use Rattle.std.specs.Prelude.{◌≡◌, ◌⊎◌, ℕ, suc, ◌<◌, ◌≤◌, true, false, List, [], ◌∷◌, ◌++◌, length, replicate, slice_get, Option}
+use Rattle.std.specs.Prelude.{◌≡◌, ◌⊎◌, ℕ, suc, ◌<◌, ◌≤◌, true, false, List, ◌++◌, length, replicate, slice_get, Option}
 use Rattle.std.specs.Prelude.{Some, None}
 use Rattle.brd_link.specs.LinkSet.{IsLinkSet}
 use Rattle.brd_board.specs.declared.event.Event.{Event}
 use Rattle.brd_board.specs.declared.event.Event.TheVariants.{Step, Tick, Raise}
 use Rattle.brd_board.specs.Board.{BoardState, happens}
-use Rattle.brd_explore.specs.declared.bounds.Bounds.{Bounds}
 use Rattle.brd_explore.specs.declared.wanted.Wanted.{Wanted}
-use Rattle.brd_explore.specs.Schedules.{Place, does, is_left, next, place_after, event_at, start}
+use Rattle.brd_explore.specs.Schedules.{Place, does, is_left, next, place_after, event_at}
 use Rattle.brd_explore.specs.Failures.{fails_at}
 use Rattle.brd_explore.specs.Searching.{IsFound, NoneFails}
 use Rattle.brd_frames.specs.Lagging.{Sharing}

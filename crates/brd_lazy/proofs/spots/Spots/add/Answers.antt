@@ -1,5 +1,4 @@
-use Rattle.std.proofs.Common.{◌≡◌, ◌<◌, List, length, sym, ap, ◌∙◌, arith}
-use Rattle.brd_board.specs.Board.{BoardState}
+use Rattle.std.proofs.Common.{◌<◌, List, length, ap, arith}
 use Rattle.brd_explore.specs.Schedules.{Place}
 use Rattle.brd_places.specs.Places.{place_after}
 use Rattle.brd_places.specs.Places as kept

@@ -1,4 +1,4 @@
-use Rattle.std.proofs.Common.{◌≡◌, ◌<◌, length, ◌∙◌, arith}
+use Rattle.std.proofs.Common.{◌<◌, length, ◌∙◌, arith}
 use Rattle.std.proofs.lemmas.Option.{get_or_from_slice_get}
 use Rattle.brd_lazy.proofs.SpotLemmas.{covers-known, margin-there}
 use Rattle.brd_lazy.proofs.spots.Spots.covers.Goals as goal

@@ -1,9 +1,8 @@
-use Rattle.std.proofs.Common.{◌≡◌, List, length, sym, ap, subst, ◌∙◌, arith}
+use Rattle.std.proofs.Common.{◌≡◌, List, length, sym, ap, subst, arith}
 use Rattle.std.specs.Prelude.{replicate, slice_get, Some}
 use Rattle.brd_board.specs.Board.{after}
 use Rattle.brd_explore.specs.Schedules.{Place}
-use Rattle.brd_lazy.specs.Spots.{spot_of}
-use Rattle.brd_lazy.specs.Finding.{IsKnown, IsMore}
+use Rattle.brd_lazy.specs.Finding.{IsMore}
 use Rattle.brd_lazy.proofs.SpotLemmas.{noted-known, noted-more}
 use Rattle.brd_lazy.proofs.spots.Spots.note.Goals as goal
 
