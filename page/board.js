@@ -129,11 +129,18 @@ function instructionOf(i) {
 
 // ---- states
 
+// What a task or a handler is called. From line 32 on a handler is that of time: the cyclic handler of ID c has line
+// 30 + 2 * c, the alarm handler of ID a line 31 + 2 * a.
+function called(kind, id) {
+  if (kind !== "handler" || id < 32) return kind + " " + id;
+  return (id % 2 === 0 ? "cyclic handler " : "alarm handler ") + Math.floor((id - 30) / 2);
+}
+
 function loaded(entry) {
   const [number, kind, id, pc, ...rest] = entry;
   const regs = new Uint32Array(35);
   for (let i = 0; i + 1 < rest.length; i += 2) regs[rest[i]] = rest[i + 1];
-  return { number, who: id === undefined ? kind : kind + " " + id, executes: pc !== undefined, pc: pc || 0, regs };
+  return { number, who: id === undefined ? kind : called(kind, id), executes: pc !== undefined, pc: pc || 0, regs };
 }
 
 function firstState() {
@@ -459,14 +466,17 @@ function counted(found) {
     + (times > 1 ? " (" + times + " times)" : "") }));
 }
 
+// A line that is raised without effect, and a time handler that is due while its line is pending.
+const LOST = /^(line \d+) (is pending already|has no handler|is raised by ticks alone)|(\w+ handler \d+) is due, and/g;
+
 const faults = () => textsOf(FAULT).map(({ i }) => ({ i, text: actor(i) + " at " + placeOf(events[i].a) + ": "
   + plain(events[i].t) }));
 const refused = () => counted(events.flatMap((event, i) =>
   [...(event.t || "").matchAll(/(\w+)\([^)]*\) = (E_(?!OK)\w+)/g)]
     .map(([, call, answer]) => ({ text: call + " is answered with " + answer, i }))));
-const lost = () => counted(textsOf(/^line (\d+) (is pending already|has no handler)/)
-  .map(({ i, found }) => ({ text: "the interrupt of line " + found[1] + " is raised without effect, since it "
-    + found[2], i })));
+const lost = () => counted(events.flatMap((event, i) => [...(event.t || "").matchAll(LOST)]
+  .map(([, line, why, handler]) => ({ i, text: "the interrupt of " + (line || handler)
+    + " is raised without effect, since it " + (why || "is pending already") }))));
 const overwritten = () => counted([...over].map(([i, { store }]) => ({ text: executors[i] + " stores to "
   + wordName(events[i].m[0]) + " over what " + executors[store] + " has stored since it loaded the word", i })));
 const spoilt = () => counted([...unkept].map(([i, { called, changed }]) => ({ text: placeOf(called.place)

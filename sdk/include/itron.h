@@ -86,6 +86,15 @@ typedef struct t_rmbx {
     T_MSG *pk_msg;                      /* the message that is received next, NULL where none is there */
 } T_RMBX;
 
+typedef struct t_rcyc {
+    STAT cycstat;                       /* TCYC_STP, TCYC_STA */
+    RELTIM lefttim;                     /* how many ticks pass before the one at which it is due */
+} T_RCYC;
+typedef struct t_ralm {
+    STAT almstat;                       /* TALM_STP, TALM_STA */
+    RELTIM lefttim;
+} T_RALM;
+
 #ifndef NULL
 #define NULL ((void *)0)
 #endif
@@ -179,6 +188,12 @@ typedef struct t_rmbx {
 #define TA_CEILING 0x03u
 #define TA_MFIFO 0x00u
 #define TA_MPRI 0x02u
+#define TA_STA 0x02u
+#define TA_PHS 0x04u
+#define TCYC_STP 0x00u
+#define TCYC_STA 0x01u
+#define TALM_STP 0x00u
+#define TALM_STA 0x01u
 
 #endif
 #endif

@@ -178,6 +178,14 @@ KERNEL_CALL ER trcv_mbx(ID mbxid, T_MSG **ppk_msg, TMO tmout)
 KERNEL_CALL ER ref_mpf(ID mpfid, T_RMPF *pk_rmpf) { return kernel_words(91, mpfid, (UINT *)pk_rmpf, 2); }
 KERNEL_CALL ER ref_mbx(ID mbxid, T_RMBX *pk_rmbx) { return kernel_words(92, mbxid, (UINT *)pk_rmbx, 2); }
 
+/* Cyclic handlers and alarm handlers. */
+KERNEL_CALL ER sta_cyc(ID cycid) { return kernel_1(93, cycid).first; }
+KERNEL_CALL ER stp_cyc(ID cycid) { return kernel_1(94, cycid).first; }
+KERNEL_CALL ER sta_alm(ID almid, RELTIM almtim) { return kernel_2(95, almid, almtim).first; }
+KERNEL_CALL ER stp_alm(ID almid) { return kernel_1(97, almid).first; }
+KERNEL_CALL ER ref_cyc(ID cycid, T_RCYC *pk_rcyc) { return kernel_words(99, cycid, (UINT *)pk_rcyc, 2); }
+KERNEL_CALL ER ref_alm(ID almid, T_RALM *pk_ralm) { return kernel_words(100, almid, (UINT *)pk_ralm, 2); }
+
 /* The board's own: a byte to the console, and the end. */
 KERNEL_CALL ER put_chr(char byte) { return kernel_1(40, (UB)byte).first; }
 KERNEL_CALL ER ext_ker(void) { return kernel_0(41).first; }
@@ -196,6 +204,8 @@ KERNEL_CALL ER imact_tsk(ID tskid, ID prcid) { return kernel_2(57, tskid, prcid)
 KERNEL_CALL ER isig_tim(void) { return kernel_0(115).first; }     /* always E_RSFN: ticks come from outside */
 KERNEL_CALL ER isnd_mbx(ID mbxid, T_MSG *pk_msg)
 { return kernel_3(87, mbxid, (UINT)pk_msg, kernel_priority(pk_msg)).first; }
+KERNEL_CALL ER ista_alm(ID almid, RELTIM almtim) { return kernel_2(96, almid, almtim).first; }
+KERNEL_CALL ER istp_alm(ID almid) { return kernel_1(98, almid).first; }
 KERNEL_CALL ER iget_pid(ID *p_prcid) { return kernel_second(kernel_0(112), (UINT *)p_prcid); }
 KERNEL_CALL ER ret_int(void) { return kernel_0(58).first; }
 

@@ -1,6 +1,6 @@
 # Makes of a configuration in C, as the C preprocessor leaves it, one for `board`. A task and a handler are named by their
-# functions there, and begin in start.S, at task_ID and handler_LINE. A value may be an expression of C: what isn't one
-# name, number, or several with | between them goes to the compiler. Variables:
+# functions there, and begin in start.S, at task_ID, handler_LINE, cyclic_ID and alarm_ID. A value may be an expression of
+# C: what isn't one name, number, or several with | between them goes to the compiler. Variables:
 #
 #   main       the configuration's name: each of its lines stands where it stands there, so that what `board` says of a
 #              line is right; lines of included files are joined to the line before
@@ -98,6 +98,10 @@ function value_ends(character,    before, after) {
 function renamed() {
     if (word != "" && count == 4 && statement == "CRE_TSK")
         return "task_" field[0]
+    if (word != "" && count == 4 && statement == "CRE_CYC")
+        return "cyclic_" field[0]
+    if (word != "" && count == 4 && statement == "CRE_ALM")
+        return "alarm_" field[0]
     if (word != "" && count == 3 && statement == "DEF_INH")
         return "handler_" field[0]
     return word
@@ -132,7 +136,21 @@ function enter() {
     else if (statement == "CRE_MPF" && count == 5)
         print "entry_pool " field[2] ", " field[3] ", " field[4] > entries
     else if (statement == "DEF_INH" && count == 3)
-        print "entry_handler " field[0] ", " field[2] > entries
+        print "entry_handler handler_" field[0] ", " field[0] ", " field[2] > entries
+    else if (statement == "CRE_CYC" && count == 6)
+        print "entry_handler cyclic_" field[0] ", " 30 + 2 * number_of(field[0]) ", " field[3] > entries
+    else if (statement == "CRE_ALM" && count == 4)
+        print "entry_handler alarm_" field[0] ", " 31 + 2 * number_of(field[0]) ", " field[3] > entries
+}
+
+# What a number is that may be hexadecimal.
+function number_of(text,    i, number) {
+    if (text !~ /^0[xX]/)
+        return text + 0
+    number = 0
+    for (i = 3; i <= length(text); i++)
+        number = 16 * number + index("0123456789abcdef", tolower(substr(text, i, 1))) - 1
+    return number
 }
 
 function put(text) {

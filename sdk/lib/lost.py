@@ -8,12 +8,13 @@ if nobody looks at its answer."""
 import os
 import re
 import strict
+from shown import WHO
 
 REFUSED = re.compile(r"(?m)^refused: put_chr\(.*\) = (E_\w+)(?: \(.*?\))? at event")
-STORED = re.compile(r" *(\d+) \d +(task|handler) (\d+) .*; (lost_output|board_lost_by) "
+STORED = re.compile(rf" *(\d+) \d +{WHO} .*; (lost_output|board_lost_by) "
                     r"\([0-9a-f]{8}\): ([0-9a-f]{8}), was ([0-9a-f]{8})\b.*")
 WHY = {"E_CTX": "handlers and CPU-locked tasks can't write", "E_QOVR": "the console is full"}
-STEP = re.compile(r" *\d+ \d +(task|handler) (\d+) +(\S+) +(?:(jr \$ra)|jal|b\w+al|jalr \$ra)\b"
+STEP = re.compile(rf" *\d+ \d +{WHO} +(\S+) +(?:(jr \$ra)|jal|b\w+al|jalr \$ra)\b"
                   r".*?(?:; to (\w+).*)?")
 LINES = 10                              # that are shown
 BEFORE = 20000                          # events before a refused call, in which its callers are looked for

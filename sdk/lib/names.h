@@ -8,4 +8,6 @@
 #define CRE_MTX(id, ...) @@mutex #id
 #define CRE_MPF(id, ...) @@pool #id
 #define CRE_MBX(id, ...) @@mailbox #id
+#define CRE_CYC(id, ...) @@cyclic #id
+#define CRE_ALM(id, ...) @@alarm #id
 #define DEF_INH(id, ...) @@line #id

@@ -12,17 +12,24 @@ CROSS = os.environ.get("CROSS", "mips-linux-gnu-")
 NUMBER = re.compile(r"0x[0-9a-fA-F]+|0|[1-9][0-9]*")
 # How `trace` calls the objects of each kind of name, and which calls begin with an ID of that kind.
 WORDS = {"task": "task", "semaphore": "semaphore", "event flag": "flag", "data queue": "queue", "lock": "lock",
-         "mutex": "mutex", "pool": "pool", "mailbox": "mailbox", "line": "line", "handler": "line"}
+         "mutex": "mutex", "pool": "pool", "mailbox": "mailbox", "line": "line", "handler": "line",
+         "cyclic handler": "cyclic", "alarm handler": "alarm"}
 CALLS = {"sem": "semaphore", "flg": "flag", "dtq": "queue", "spn": "lock", "mtx": "mutex", "mpf": "pool",
-         "mbx": "mailbox", "tsk": "task", "wup": "task", "wai": "task", "act": "task", "pri": "task"}
+         "mbx": "mailbox", "cyc": "cyclic", "alm": "alarm", "tsk": "task", "wup": "task", "wai": "task", "act": "task", "pri": "task"}
 NO_ID = ("dly_tsk", "slp_tsk", "tslp_tsk", "ext_tsk")
 NAMED = re.compile(rf"\b({'|'.join(WORDS)}) (\d+)\b|\b(\w+_({'|'.join(CALLS)}))\((\d+)\b")
 # The line of a trace where an assertion doesn't hold (stop.c).
-ASSERTION = re.compile(r"(?m)^ *(\d+) (\d) +(task|handler) (\d+) +board_stop(?:\+0x[0-9a-f]+)? +Bp: ")
+ASSERTION = re.compile(rf"(?m)^ *(\d+) (\d) +{shown.WHO} +board_stop(?:\+0x[0-9a-f]+)? +Bp: ")
 # The label in start.S where a task's function returns to.
 RETURNED = re.compile(r"returned_from_(\w+)\.(\d+)")
 # Service calls and the like are compiled into their callers, so a place in these is told as the caller's.
 INLINED = re.compile(r"(^|/)(kernel|board)\.h$")
+
+
+def handler_name(line):
+    """How the handler of a line is called: from line 32 on it is a time handler."""
+    kind = "alarm" if line % 2 else "cyclic"
+    return f"handler of line {line}" if line < 32 else f"{kind} handler {(line - 30) // 2}"
 
 
 def fail(text, status=2):
@@ -174,7 +181,8 @@ class Objects:
         if os.path.exists(path) and os.path.exists(config):
             # Both are made of the same text, so they have the same statements in the same order.
             names = re.findall(r'@@(\w+) "((?:[^"\\]|\\.)*)"', self.read(path))
-            numbers = re.findall(r"\b(?:CRE_(?:TSK|SEM|FLG|DTQ|SPN|MTX|MPF|MBX)|DEF_INH)\s*\(\s*(\w+)", self.read(config))
+            numbers = re.findall(r"\b(?:CRE_(?:TSK|SEM|FLG|DTQ|SPN|MTX|MPF|MBX|CYC|ALM)|DEF_INH)\s*\(\s*(\w+)",
+                                 self.read(config))
             for (kind, name), number in zip(names, numbers):
                 if len(names) == len(numbers) and name.isidentifier() and NUMBER.fullmatch(number):
                     self.names[kind, int(number, 0)] = name
@@ -186,11 +194,11 @@ class Objects:
 
     def name(self, word, number):
         """That of a task or another object, or nothing."""
-        return self.names.get((WORDS[word], int(number)))
+        return self.names.get((WORDS.get(word, word), int(number)))
 
     def executing(self):
         """What executes and has a name: tasks and handlers, with their numbers."""
-        kinds = {"task": "task", "line": "handler"}
+        kinds = {"task": "task", "line": "handler", "cyclic": "cyclic handler", "alarm": "alarm handler"}
         return [(kinds[kind], number) for kind, number in self.names if kind in kinds]
 
     def named(self, text):
@@ -263,10 +271,16 @@ class Report:
 
     def running(self):
         """What executes still, on a board that is on: the steps ran out there."""
-        found = [re.match(r"cpu (\d+) (?:(task \d+)|(handler \d+) pc (\w+))", it) for it in self.processors]
+        found = [re.match(r"cpu (\d+) (?:(task \d+)|handler (\d+) pc (\w+))", it) for it in self.processors]
         # (Where a task is `trace --summary` says.)
-        return [] if self.is_off else \
-            [f"processor {it[1]} runs {it[2] or f'{it[3]} at {it[4]}'}" for it in found if it]
+        return [] if self.is_off else [f"processor {it[1]} runs {it[2] or self.handler(*it.groups()[2:])}"
+                                       for it in found if it]
+
+    @staticmethod
+    def handler(line, place):
+        """A handler of an interrupt line, and where it is."""
+        name = f"handler {line}" if int(line) < 32 else handler_name(int(line))
+        return f"{name} at {place}"
 
 
 def asked(words, is_quiet):
@@ -347,7 +361,7 @@ class Program:
             return None
         handlers = [it[len("handler_stack_"):] for it, at in self.names().places.items()
                     if at[0] == stack and it.startswith("handler_stack_")]
-        who = f"task {task}, processor {processor}" if task else f"handler of line {handlers[0]}" if handlers else "?"
+        who = f"task {task}, processor {processor}" if task else handler_name(int(handlers[0], 0)) if handlers else "?"
         if not task and len(report.stopped()) == 1:
             who += f", processor {report.stopped()[0].split()[1]}"
         return f"{debugger.text_at(why)} {place:08x} ({who})"
@@ -365,7 +379,7 @@ class Program:
         debugger.answer(f"goto {event}")
         registers = dict(it.split() for it in debugger.lines(f"regs {cpu}"))
         file, line, condition = (int(registers.get(f"${it}", "0"), 16) for it in (4, 5, 6))
-        who = f"handler of line {number}" if kind == "handler" else f"task {number}"
+        who = f"handler of line {number}" if kind == "handler" else f"{kind} {number}"
         text = f"{debugger.text_at(file)}:{line}: this doesn't hold: {debugger.text_at(condition)}"
         debugger.close()
         return f"{text} ({who}, processor {cpu})", int(event) + 1

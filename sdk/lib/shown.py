@@ -4,9 +4,12 @@ a header of the kit makes, of a return address, and of the switches of a search.
 import os
 import re
 
-# A line of `board trace`: event and processor, who executes (in a column), where (in a column), and what happens.
-COLUMNS = re.compile(r"([ \d]{10} (?:[1-8]| )   )(.{10}) (\S* *)(.*)")
-EXECUTES = re.compile(r"(?:task|handler) \d+")
+# Who executes.
+WHO = r"(task|(?:cyclic |alarm )?handler) (\d+)"
+# A line of `board trace`: event and processor, who executes (in a column, for which the name of a time handler is too
+# wide), where (in a column), and what happens.
+COLUMNS = re.compile(r"([ \d]{10} (?:[1-8]| )   )((?:cyclic|alarm) handler \d+|.{10}) (\S* *)(.*)")
+EXECUTES = re.compile(WHO)
 HEAD = "     event cpu who        where               what"
 HAS_LINE = re.compile(r"; [^ ;]+:\d+$")
 # Where something is: a place with its address and without a line; a return address; a place of a switch.
@@ -14,7 +17,7 @@ PLACE = re.compile(r"\bat (?:[\w.$]+(?:\+0x[0-9a-f]+)? )?\(([0-9a-f]{8})\)")
 RETURN = re.compile(r"\$ra is ([\w.$]+\+0x[0-9a-f]+|[0-9a-f]{8})")
 SWITCH = re.compile(r" *\d+  (?:processor \d+ |.*; processor \d+ )")
 SWITCHED = re.compile(r"(?: stops before .*? at| goes on at) ([\w.$]+(?:\+0x[0-9a-f]+)?)(?=;|$)")
-START = re.compile(r"(task|handler)_(\d+)")
+START = re.compile(r"(task|handler|cyclic|alarm)_(\d+)")
 # The file that start.S reads, which is made of the configuration.
 ENTRIES = "entries.inc"
 

@@ -1,10 +1,11 @@
-/* Where tasks and interrupt handlers begin, and what becomes of them when their functions in C return. The kernel
- * begins both with 0 in $ra, so a function that returned there would fetch its next instruction from 0, which is an
- * exception. A handler begins with 0 in $sp too: each line has a stack of its own, since handlers of two processors run
- * at the same time. Above its stack pointer a function finds 16 bytes for its arguments, hence each 16 below.
+/* Where tasks and handlers begin, and what becomes of them when their functions in C return. The kernel begins both with
+ * 0 in $ra, so a function that returned there would fetch its next instruction from 0, which is an exception. A handler
+ * begins with 0 in $sp too: each line has a stack of its own, since handlers of two processors run at the same time.
+ * Above its stack pointer a function finds 16 bytes for its arguments, hence each 16 below.
  *
- * $k0, which no compiler uses, has the lowest address of the stack, for stack.S. Whatever is in $a0 stays there: a
- * task's argument (exinf), a handler's line. For debuggers a backtrace ends here: nobody has called these. */
+ * $k0, which no compiler uses, has the lowest address of the stack, for stack.S. Whatever is in $a0 stays there: the
+ * argument (exinf) of a task or of a time handler, another handler's line. For debuggers a backtrace ends here: nobody
+ * has called these. */
         .set    noreorder
         .cfi_sections .debug_frame
         .equ    EXT_TSK, 3
@@ -53,11 +54,12 @@ returned_from_\function\().\id:
         .endif
         .endm
 
-/* DEF_INH: handler_LINE calls the handler's function on the line's stack, and then ret_int. */
-        .macro  entry_handler line, function
-        .globl  handler_\line
-        .type   handler_\line, @function
-handler_\line:
+/* DEF_INH: handler_LINE calls the handler's function on the line's stack, and then ret_int. CRE_CYC and CRE_ALM: so do
+ * cyclic_ID and alarm_ID, whose lines are 30 + 2 * ID and 31 + 2 * ID. */
+        .macro  entry_handler name, line, function
+        .globl  \name
+        .type   \name, @function
+\name\():
         .cfi_startproc
         .cfi_undefined 31
         lui     $k0, %hi(handler_stack_\line)
@@ -67,7 +69,7 @@ handler_\line:
         addiu   $v0, $0, RET_INT
         syscall
         .cfi_endproc
-        .size   handler_\line, . - handler_\line
+        .size   \name, . - \name
         .pushsection .bss.stacks, "aw", @nobits
         .balign 16
 handler_stack_\line:

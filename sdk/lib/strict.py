@@ -1,8 +1,9 @@
 """Calls that the kernel has refused, as a trace shows them, and whether somebody looks at the answer."""
 import re
+from shown import WHO
 
 # A line of `board trace`: the event, the executor, the place, and what happened. That of a tick has only an event.
-LINE = re.compile(r" *(\d+) (?:\d +(task|handler) (\d+) +(\S+))? +(.*)")
+LINE = re.compile(rf" *(\d+) (?:\d +{WHO} +(\S+))? +(.*)")
 ANSWER = re.compile(r"(?:task (\d+): )?(\w+\((?:'.+'|[^()]*)\)) = (E_(?!OK\b)\w+)")
 CALL = re.compile(r"\w+\(|service \d")
 # Instructions whose first operand isn't what they write: stores, branches, traps, products and quotients, jumps.

@@ -7,7 +7,7 @@ whose calls come more often than the others, so that queues of waiting tasks gro
 import random
 import struct
 
-from kernel import CALLS, PoolSetup, Setup, TaskSetup, distance
+from kernel import CALLS, AlarmSetup, CyclicSetup, PoolSetup, Setup, TaskSetup, distance
 from machine import RAM_START, ROWS, WORD, encode
 
 DATA = RAM_START + 0x8000
@@ -52,6 +52,9 @@ USES = {
     "prcv_mbx": (1, 1, .1, "mailbox"), "trcv_mbx": (5, .2, .1, "mailbox timeout"),
     "ref_mpf": (.3, .5, .1, "pool word"), "ref_mbx": (.3, .5, .1, "mailbox word"),
     "ref_flg": (.3, .5, .1, "flag word"), "ref_dtq": (.3, .5, .1, "queue word"), "iget_pid": (.1, .1, .5, ""),
+    "sta_cyc": (2, 3, .1, "cyclic"), "stp_cyc": (.3, .8, .1, "cyclic"), "ref_cyc": (.3, .5, .1, "cyclic word"),
+    "sta_alm": (3, 5, .1, "alarm delay"), "ista_alm": (.1, .1, 2, "alarm delay"), "stp_alm": (.3, .5, .1, "alarm"),
+    "istp_alm": (.1, .1, .5, "alarm"), "ref_alm": (.3, .5, .1, "alarm word"),
 }
 THEMES = {
     "everything": "", "links": "", "sleep": "slp_tsk tslp_tsk wup_tsk can_wup rel_wai sus_tsk rsm_tsk iwup_tsk",
@@ -67,6 +70,7 @@ THEMES = {
     "mailbox": "snd_mbx isnd_mbx prcv_mbx ref_mbx chg_pri rel_wai sus_tsk rsm_tsk",
     "messages": "rcv_mbx trcv_mbx prcv_mbx isnd_mbx ref_mbx chg_pri rel_wai sus_tsk rsm_tsk",
     "profile": "get_tim set_tim sns_loc sns_dsp sns_dpn frsm_tsk mget_tid mrot_rdq ref_tsk ref_sem ref_flg ref_dtq",
+    "times": "sta_cyc stp_cyc ref_cyc sta_alm stp_alm ref_alm ista_alm istp_alm dis_dsp loc_cpu dly_tsk",
 }
 # Loads and stores, and what their addresses have to be multiples of.
 SIZES = {name: 1 for name in ("LB", "LBU", "SB", "LWL", "LWR", "SWL", "SWR")}
@@ -130,7 +134,7 @@ class Maker:
     def shape(self):
         """Which processors, tasks, objects and lines there are."""
         alone = self.often(.25) and self.theme not in ("links", "held", "lock")
-        of_the_profile = "profile", "mutex", "pool", "mailbox", "messages"
+        of_the_profile = "profile", "mutex", "pool", "mailbox", "messages", "times"
         self.standard = self.theme in of_the_profile or self.often(.5)
         self.processors = 1 if alone else self.chance(2, 2, 2, 2, 3, 3, 4, 8)
         self.tasks = self.ids(self.random.randrange(4, 11))
@@ -155,6 +159,14 @@ class Maker:
         self.mailboxes = {key: self.new_mailbox() for key in self.ids(count)} if self.standard else {}
         lines = self.random.sample(range(32), self.random.randrange(5))
         self.lines = {line: self.random.randrange(1, self.processors + 1) for line in lines}
+        kinds = 1 if self.theme == "times" else 0
+        counts = (self.chance(kinds, kinds, 1, 2, 3) if self.standard else 0 for _ in range(2))
+        self.cyclics, self.alarms = ({key: self.random.randrange(1, self.processors + 1) for key in self.time_ids(it)}
+                                     for it in counts)
+
+    def time_ids(self, count):
+        """IDs of time handlers."""
+        return self.random.sample(self.chance(range(1, 65), range(1, 9)), count)
 
     def new_semaphore(self):
         maximum = self.chance(1, 1, 2, 3, 65535)
@@ -181,8 +193,8 @@ class Maker:
         if self.often(self.stray / 2):
             return self.chance(0, 0, 2, 17, 255, 256, self.processors + 1, WORD, WORD - 1, 0x80000000, 0x10001)
         known = {"semaphore": self.semaphores, "flag": self.flags, "queue": self.queues,
-                 "lock": self.spin_locks, "mutex": self.mutexes, "pool": self.pools,
-                 "mailbox": self.mailboxes}.get(kind)
+                 "lock": self.spin_locks, "mutex": self.mutexes, "pool": self.pools, "mailbox": self.mailboxes,
+                 "cyclic": self.cyclics, "alarm": self.alarms}.get(kind)
         if known is not None:
             return self.chance(*(known or [1]))
         # (None is the second result of the call before, which may be the address of a block)
@@ -197,6 +209,7 @@ class Maker:
             "priority": lambda: self.chance(0, 0, 0, *self.priority.values(), self.random.randrange(1, 17)),
             "timeout": lambda: self.chance(0, 1, 1, 2, 2, 3, 3, 4, 6, 10, 20, WORD),
             "time": lambda: self.chance(0, 0, 1, 1, 2, 3, 4),
+            "delay": lambda: self.chance(0, 0, 1, 1, 2, 3, 5, 0x7FFFFFFF, 0x80000000),
             "bits": lambda: self.chance(1, 1, 2, 2, 3, 4, 5, 6, 7, 8, 0x80000000),
             "kept": lambda: self.chance(0, 0, 1, 0xFFFFFFFE, 0xFFFFFFFC),
             "mode": lambda: self.chance(0, 1),
@@ -216,7 +229,7 @@ class Maker:
                 code.add("ADDU", rs=3, rd=register)
             else:
                 code.set(register, value)
-        code.set(2, NUMBERS.get(name) or self.chance(0, 42, 47, 59, 63, 93, 99, 0x101))
+        code.set(2, NUMBERS.get(name) or self.chance(0, 42, 47, 59, 63, 101, 111, 0x101))
         if self.often(.08):
             branch = self.chance("BEQ", "BEQ", "BGEZAL", "BNE", "BEQL")
             code.add(branch, immediate=self.random.randrange(1, 4))
@@ -391,6 +404,11 @@ class Maker:
                 self.fail(code)
         self.call(code, "ret_int", None)
 
+    def handlers(self):
+        """All handlers, by their kinds and lines or IDs."""
+        kinds = ("line", self.lines), ("cyclic", self.cyclics), ("alarm", self.alarms)
+        return [(kind, key) for kind, its in kinds for key in its]
+
     def write_program(self):
         """Lays down the program of each task and each handler, an endless loop each."""
         # (workers of a theme wait most of all, so that several come to wait at once)
@@ -400,7 +418,7 @@ class Maker:
         code = Program(RAM_START + self.chance(0, 0x40))
         self.start, self.address = code.address, {}
         made = [(task, self.manager_code if task == self.manager else self.worker) for task in self.tasks]
-        for who, make in made + [(("line", line), self.handler_code) for line in self.lines]:
+        for who, make in made + [(it, self.handler_code) for it in self.handlers()]:
             self.address[who] = code.here()
             if self.often(.95):
                 code.set(BASE, DATA)
@@ -430,14 +448,21 @@ class Maker:
         ram = self.chance(0x10000, 0x10000, 0x20000)
         tasks = [self.task_setup(task, ram) for task in self.random.sample(self.tasks, len(self.tasks))]
         lines = {line: (its, self.address["line", line]) for line, its in self.lines.items()}
+        cyclics = {key: self.cyclic_setup(key, its) for key, its in self.cyclics.items()}
+        alarms = {key: AlarmSetup(its, self.word(), self.address["alarm", key]) for key, its in self.alarms.items()}
         data = self.random.getrandbits(8 * 64).to_bytes(64, "big")
         segments = [(self.start, self.code), (DATA, data)]
         self.setup = Setup(self.processors, ram, self.order, segments, tasks, self.semaphores, self.flags, self.queues,
-                           self.spin_locks, lines, self.standard, self.mutexes, self.pools, self.mailboxes)
+                           self.spin_locks, lines, self.standard, self.mutexes, self.pools, self.mailboxes, cyclics,
+                           alarms)
         bound = [(it.processor, "CRE_TSK(%d, {%d, 0x%x, 0x%x, %d, %d, %s});" % (
             it.id, 2 * it.starts, it.argument, it.address, it.priority, it.size,
             "NULL" if it.stack is None else hex(it.stack))) for it in tasks]
         bound += [(its, f"DEF_INH({line}, {{TA_HLNG, {address}}});") for line, (its, address) in lines.items()]
+        bound += [(it.processor, f"CRE_CYC({key}, {{{2 * it.starts | 4 * it.keeps}, {it.argument}, {it.address}, "
+                   f"{it.period}, {it.phase}}});") for key, it in cyclics.items()]
+        bound += [(it.processor, f"CRE_ALM({key}, {{{self.chance('TA_NULL', 'TA_ASM', 0)}, {it.argument}, "
+                   f"{it.address}}});") for key, it in alarms.items()]
         text = ["PROFILE(STANDARD);"] * self.standard + [f"BOARD({self.processors}, {ram});"]
         text += [one if its == 1 else f"CLASS(TCL_{its}) {{ {one} }}" for its, one in bound]
         text += [f"CRE_SEM({key}, {{{int(by)}, {count}, {most}}});"
@@ -459,8 +484,16 @@ class Maker:
         starts = task == self.manager or self.often(.7)
         size = self.chance(1, 15, 16, 17, 256, 1000)
         stack = None if self.often(.7) else RAM_START + self.random.randrange(ram - size)
-        argument = self.chance(0, 1, self.random.getrandbits(32))
-        return TaskSetup(task, self.place[task], starts, argument, self.address[task], self.priority[task], size, stack)
+        return TaskSetup(task, self.place[task], starts, self.word(), self.address[task], self.priority[task], size,
+                         stack)
+
+    def word(self):
+        return self.chance(0, 1, self.random.getrandbits(32))
+
+    def cyclic_setup(self, key, processor):
+        period, phase = self.chance(1, 2, 3, 5, 8, 20, 50, 0x7FFFFFFF), self.chance(0, 0, 1, 2, 7, 20, 0x7FFFFFFF)
+        return CyclicSetup(processor, self.word(), self.address["cyclic", key], self.often(.6), self.often(.4), period,
+                           phase)
 
     def journal_text(self):
         """The journal of the runs. One of version 1 is big-endian, and so may stand for one of version 2."""
@@ -472,12 +505,13 @@ class Maker:
     def events(self):
         """Runs of events: a letter, a processor's or a line's number, and how often it comes."""
         left, longest = self.chance(500, 1000, 2000), self.chance(1, 4, 8, 20, 40)
-        ticks, raises = self.chance(.05, .1, .2, .3), self.chance(.02, .06, .15)
+        often = (.2, .3) if self.theme == "times" else (.05, .1, .2, .3)
+        ticks, raises = self.chance(*often), self.chance(.02, .06, .15)
         while left > 0:
             kind, = self.random.choices("TRS", [ticks, raises, 1 - ticks - raises])
             known = {"T": [0], "R": list(self.lines), "S": [*range(1, self.processors + 1), *self.place.values()]}[kind]
             stray = kind != "T" and (not known or self.often(.01))
-            number = self.chance(0, 9, 31, 32, 255) if stray else self.random.choice(known)
+            number = self.chance(0, 9, 31, 32, 33, 159, 160, 255) if stray else self.random.choice(known)
             count = self.chance(1, 1, 2) if kind != "S" else self.random.randrange(1, longest + 1)
             left -= count
             yield kind, number, count

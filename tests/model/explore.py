@@ -12,7 +12,7 @@ CHESS (Musuvathi and Qadeer, "Iterative Context Bounding for Systematic Testing 
 has the bound on preemptions: a switch from a thread that could go on counts, one from a thread that can't is free.
 Whether it could is judged right after its last step. A schedule comes to an end where its board is off, or at rest
 after as many raises as are owed; it is cut short where it hasn't, and no event is left, or nobody goes, a wait would
-end by a tick, and none is left.
+end by a tick or a time handler be due at one, and none is left.
 
 Some steps are left out: where a schedule with one of them fails, one without it does. A processor falls asleep by a
 local instruction: one that touches nothing but registers, HI, LO and the program counter, and can raise nothing,
@@ -35,13 +35,15 @@ import tempfile
 
 sys.dont_write_bytecode = True
 sys.path.insert(0, os.path.dirname(os.path.abspath(__file__)))
-from kernel import Board, PoolSetup, Setup, TaskSetup  # noqa: E402 (these are the modules beside this file)
+# (these are the modules beside this file)
+from kernel import AlarmSetup, Board, CyclicSetup, PoolSetup, Setup, TaskSetup  # noqa: E402
 from machine import RAM_START, decode  # noqa: E402
 
 # How many steps each processor takes in a round of the fair end, before a tick passes.
 ROUND = 16
 ATTRIBUTES = {"TA_NULL": 0, "TA_HLNG": 0, "TA_ASM": 1, "TA_ACT": 2, "TA_TFIFO": 0, "TA_TPRI": 1, "TA_WSGL": 0,
-              "TA_WMUL": 2, "TA_CLR": 4, "TA_INHERIT": 2, "TA_CEILING": 3, "TA_MFIFO": 0, "TA_MPRI": 2}
+              "TA_WMUL": 2, "TA_CLR": 4, "TA_INHERIT": 2, "TA_CEILING": 3, "TA_MFIFO": 0, "TA_MPRI": 2, "TA_STA": 2,
+              "TA_PHS": 4}
 Bounds = collections.namedtuple("Bounds", "events preemptions ticks raises owed")
 # Where a schedule is, beside its board: what is left of the bounds, whom a step of another processor preempts (0:
 # nobody), the path there (None, or a pair of the path before and an event), and who sleeps, if somebody does.
@@ -90,9 +92,7 @@ class Explored(Board):
         """Whether a step of a processor does anything: an interrupt is accepted, or somebody executes."""
         if self.off or processor.stopped:
             return False
-        free = processor.line is None and not processor.locked
-        due = any(self.lines[line][0] == processor.number for line in self.pending)
-        return free and due or processor.context() is not None
+        return bool(self.acceptable(processor)) or processor.context() is not None
 
     def does(self, event):
         kind, number = event
@@ -114,9 +114,13 @@ class Explored(Board):
 
     # What is looked for
 
+    def is_timed(self):
+        """A wait ends by a tick, or a time handler is due at one."""
+        return any(it.due is not None for it in (*self.tasks.values(), *self.timers.values()))
+
     def is_still(self):
-        """Nobody goes on, and no tick ends a wait."""
-        return not any(map(self.goes, self.processors.values())) and all(it.due is None for it in self.tasks.values())
+        """Nobody goes on, and no tick lets anybody go on."""
+        return not any(map(self.goes, self.processors.values())) and not self.is_timed()
 
     def is_stuck(self):
         return not self.off and self.is_still() and any(it.waits_in is not None for it in self.tasks.values())
@@ -361,7 +365,7 @@ def setup_of(text, image):
     def value(word):
         return sum({values[it] if it in values else int(it, 0) for it in re.split(r"\s*\|\s*", word.strip())})
     kinds = {"SEM": {}, "FLG": {}, "DTQ": {}, "SPN": {}, "MTX": {}, "MPF": {}, "MBX": {}}
-    tasks, lines, cpu, standard = [], {}, 1, False
+    tasks, lines, cyclics, alarms, cpu, standard = [], {}, {}, {}, 1, False
     for name, words, end in re.findall(r"(\w+)\s*\(([^;]*?)\)\s*(?=([;{]))|\}", text):
         words = [it.strip() for it in words.replace("{", " ").replace("}", " ").split(",")]
         if name == "PROFILE":
@@ -382,6 +386,12 @@ def setup_of(text, image):
             key, bits, count, size = map(value, words[:4])
             area = None if words[4] == "NULL" else value(words[4])
             kinds["MPF"][key] = PoolSetup(bool(bits & 1), count, size, area)
+        elif name == "CRE_CYC":
+            key, bits, argument, address, period, phase = map(value, words)
+            cyclics[key] = CyclicSetup(cpu, argument, address, bool(bits & 2), bool(bits & 4), period, phase)
+        elif name == "CRE_ALM":
+            key, _, argument, address = map(value, words)
+            alarms[key] = AlarmSetup(cpu, argument, address)
         else:
             key, bits, *rest = [0 if it == "NULL" else value(it) for it in words]
             kinds[name[4:]][key] = {"SEM": (bool(bits & 1), *rest), "DTQ": (bool(bits & 1), *rest[:1]), "SPN": None,
@@ -390,7 +400,7 @@ def setup_of(text, image):
                                     "MBX": (bool(bits & 1), bool(bits & 2), *rest[:1])}[name[4:]]
     mutexes, pools, mailboxes = (kinds.pop(it) for it in ("MTX", "MPF", "MBX"))
     return Setup(processors, ram, image.order, image.segments, tasks, *kinds.values(), lines, standard, mutexes, pools,
-                 mailboxes)
+                 mailboxes, cyclics, alarms)
 
 
 def never_of(text, symbols):

@@ -27,6 +27,7 @@ WAYS = [
     ("loc_mtx loc_mtx tloc_mtx ploc_mtx ext_tsk ter_tsk act_tsk", "iact_tsk"),
     ("get_mpf get_mpf tget_mpf pget_mpf rel_mpf", "iget_tid"),
     ("snd_mbx snd_mbx rcv_mbx trcv_mbx prcv_mbx", "isnd_mbx"),
+    ("sta_alm sta_alm sta_cyc stp_alm stp_cyc loc_cpu", "ista_alm"),
 ]
 ENDS = {"loc_cpu": "unl_cpu", "dis_dsp": "ena_dsp", "loc_spn": "unl_spn", "try_spn": "unl_spn", "loc_mtx": "unl_mtx",
         "tloc_mtx": "unl_mtx", "ploc_mtx": "unl_mtx", "get_mpf": "rel_mpf", "tget_mpf": "rel_mpf", "pget_mpf":
@@ -63,12 +64,14 @@ class Handing(Maker):
             self.standard, self.pools = True, self.pools or {6: self.new_pool()}
         if number == 12:
             self.standard, self.mailboxes = True, self.mailboxes or {7: self.new_mailbox()}
+        if number == 13:
+            self.standard, self.cyclics, self.alarms = True, self.cyclics or {8: 1}, self.alarms or {9: self.processors}
         self.words, self.step = self.chance(4, 12, 40, 100), self.chance(0, 16, 64, 64, 64)
         self.flag_words, self.sound = self.chance(1, 2, 4), self.chance(.3, .6, .9)
         self.base = self.chance(BASE, MOVING)
         if self.suspends:
             self.base, self.sound, self.longest = MOVING, .95, 20
-        self.programs = [*self.tasks, *(("line", line) for line in self.lines)]
+        self.programs = [*self.tasks, *self.handlers()]
 
     # Programs
 

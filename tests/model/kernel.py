@@ -1,10 +1,11 @@
 """The kernel and the board of the model: tasks, objects, time, the table of service calls, events, the report.
 
 The uITRON 4.0 specification says what the calls do; TOPPERS/FMP what mact_tsk, imact_tsk, mig_tsk, get_pid, mget_tid,
-mrot_rdq and those of spin locks do. From where a call may come, the order of its refusals, that a call spins by coming
-again, that calls above 63 are there in the profile alone, that the ref_ calls tell a word each, which block of a memory
-pool is handed out, where pools lie, that snd_mbx has the priority as an argument and refuses a 257th message, put_chr,
-ext_ker, ret_int and the events are own choices.
+mrot_rdq, ista_alm, istp_alm and those of spin locks do. From where a call may come, the order of its refusals, that a
+call spins by coming again, that calls above 63 are there in the profile alone, that the ref_ calls tell a word each,
+which block of a memory pool is handed out, where pools lie, that snd_mbx has the priority as an argument and refuses a
+257th message, that time handlers are handlers of interrupt lines above 31, put_chr, ext_ker, ret_int and the events are
+own choices.
 """
 import collections
 
@@ -23,12 +24,14 @@ SILENT, DONE, AGAIN = (), (E_OK,), ("again",)
 
 # What a board is made of. Objects stand by their IDs, lines by their numbers, tasks in the order of their statements;
 # `standard` where it has the profile, which alone has mutexes, memory pools (which lie in the order of their
-# statements) and mailboxes.
+# statements), mailboxes, cyclic handlers and alarm handlers.
 Setup = collections.namedtuple("Setup",
                                "processors ram order segments tasks semaphores flags queues spin_locks lines standard "
-                               "mutexes pools mailboxes", defaults=[False, {}, {}, {}])
+                               "mutexes pools mailboxes cyclics alarms", defaults=[False, {}, {}, {}, {}, {}])
 TaskSetup = collections.namedtuple("TaskSetup", "id processor starts argument address priority size stack")
 PoolSetup = collections.namedtuple("PoolSetup", "by_priority count size area")
+CyclicSetup = collections.namedtuple("CyclicSetup", "processor argument address starts keeps period phase")
+AlarmSetup = collections.namedtuple("AlarmSetup", "processor argument address")
 
 
 class TaskList(list):
@@ -105,6 +108,40 @@ class Mailbox:
         self.waiters = TaskList("message", by_priority)
 
 
+class Cyclic:
+    """A cyclic handler; `due` is the tick at which it is due next, None where it is stopped."""
+
+    def __init__(self, setup):
+        self.setup, self.due = setup, None
+        if setup.starts:
+            self.due = setup.phase + 1
+
+    def start(self, now):
+        """After a whole period, or at the next of the times that are counted from boot."""
+        if not self.setup.keeps:
+            self.due = now + self.setup.period + 1
+            return
+        self.due = self.setup.phase + 1
+        while self.due <= now:
+            self.due += self.setup.period
+
+    def passed(self):
+        self.due += self.setup.period
+
+
+class Alarm:
+    """An alarm handler; `due` as above."""
+
+    def __init__(self, setup):
+        self.setup, self.due = setup, None
+
+    def start(self, now, ticks):
+        self.due = now + ticks + 1
+
+    def passed(self):
+        self.due = None
+
+
 class SpinLock:
     """`holder` is the processor that holds it, if one does."""
 
@@ -157,6 +194,11 @@ class Board:
         self.pools = {key: Pool(it, start) for (key, it), start in zip(setup.pools.items(), areas(setup))}
         self.mailboxes = {key: Mailbox(*it) for key, it in setup.mailboxes.items()}
         self.lines, self.pending = setup.lines, set()
+        self.cyclics = {key: Cyclic(it) for key, it in setup.cyclics.items()}
+        self.alarms = {key: Alarm(it) for key, it in setup.alarms.items()}
+        # (by the line that is raised where one is due)
+        self.timers = {30 + 2 * key: it for key, it in self.cyclics.items()}
+        self.timers |= {31 + 2 * key: it for key, it in self.alarms.items()}
         self.now, self.off, self.console = 0, False, bytearray()
         # (the system time before the first tick)
         self.standard, self.clock = setup.standard, 0
@@ -300,7 +342,17 @@ class Board:
     def acceptable(self, processor):
         """The pending lines that a processor would accept in its next step, unless it is stopped."""
         is_free = processor.line is None and not processor.locked
-        return [line for line in self.pending if is_free and self.lines[line][0] == processor.number]
+        return [line for line in self.pending if is_free and self.handled_by(line) == processor.number]
+
+    def handled_by(self, line):
+        return self.timers[line].setup.processor if line in self.timers else self.lines[line][0]
+
+    def entry(self, line):
+        """The context in which the handler of a line begins."""
+        if line in self.timers:
+            setup = self.timers[line].setup
+            return Context(setup.address, setup.argument)
+        return Context(self.lines[line][1], line)
 
     def accept(self, processor, line):
         """An interrupt: the handler begins in the place of an instruction."""
@@ -308,7 +360,7 @@ class Board:
         self.counts[f"interrupt: {state} processor"] += 1
         self.pending.remove(line)
         self.memory.links.pop(processor.number, None)
-        processor.line, processor.handler = line, Context(self.lines[line][1], line)
+        processor.line, processor.handler = line, self.entry(line)
         return "Accepted", None
 
     def call(self, processor, context, before):
@@ -339,11 +391,18 @@ class Board:
         self.dispatch()
 
     def tick(self):
-        """Ends the waits whose time has come, by ascending ID, before any other task is chosen to run."""
+        """Ends the waits whose time has come, by ascending ID, before any other task is chosen to run; then time
+        handlers are due."""
         self.now += 1
         for task in self.tasks.values():
             if task.due is not None and task.due <= self.now:
                 self.release(task, E_OK if task.waits_in is self.delayed else E_TMOUT)
+        for line, timer in self.timers.items():
+            if timer.due == self.now:
+                kind = handler_name(line).split()[0]
+                self.counts[f"due: {kind} handler" + (", pending already" if line in self.pending else "")] += 1
+                self.pending.add(line)
+                timer.passed()
         self.dispatch()
         return "Ticked", None
 
@@ -356,6 +415,11 @@ class Board:
             lines.append(f"cpu {it.number} {what}" + (f" pc {it.context().pc:08x}" if it.context() else ""))
         lines += [f"task {it.id} {it.state} pri {it.priority} cpu {it.processor}" for it in self.tasks.values()]
         return "\n".join(lines + [f"console {len(self.console)}", ""]).encode() + bytes(self.console) + b"\n"
+
+
+def handler_name(line):
+    """What the handler of a line is called: those of time by their IDs."""
+    return f"handler {line}" if line < 32 else f"{'alarm' if line % 2 else 'cyclic'} handler {(line - 30) // 2}"
 
 
 def stacks(setup):
@@ -425,7 +489,7 @@ class Request:
                 return E_ID
             objects = {"S": self.board.semaphores, "F": self.board.flags, "Q": self.board.queues,
                        "L": self.board.spin_locks, "M": self.board.mutexes, "P": self.board.pools,
-                       "B": self.board.mailboxes}
+                       "B": self.board.mailboxes, "C": self.board.cyclics, "A": self.board.alarms}
             self.object = objects.get(call.names, self.board.tasks).get(key)
         # (a call's timeout is -1, forever, or 0, a poll, or the argument that is named by A and its number)
         self.timeout = signed(self.arguments[int(call.timeout[1])]) if isinstance(call.timeout, str) else call.timeout
@@ -508,7 +572,7 @@ class Request:
 
     def rot_rdq(self):
         """Puts the first ready task of a priority after its equals, on the caller's or the handler's processor."""
-        priority = self.arguments[0] or self.caller.priority
+        priority = self.arguments[0] or self.caller.base
         for task in [task for task in self.processor.ready if task.priority == priority][:1]:
             self.board.move(task, priority)
 
@@ -659,7 +723,7 @@ class Request:
         return E_OK, running.id if running else 0
 
     def mrot_rdq(self):
-        priority, ready = self.arguments[0] or self.caller.priority, self.board.processors[self.arguments[1]].ready
+        priority, ready = self.arguments[0] or self.caller.base, self.board.processors[self.arguments[1]].ready
         for task in [task for task in ready if task.priority == priority][:1]:
             self.board.move(task, priority)
 
@@ -702,6 +766,19 @@ class Request:
         messages = self.object.messages
         return E_OK, [first(self.object.waiters), messages[0][1] if messages else 0][self.arguments[1]]
 
+    def sta_cyc(self):
+        self.object.start(self.board.now)
+
+    def sta_alm(self):
+        self.object.start(self.board.now, self.arguments[1])
+
+    def stop(self):
+        self.object.due = None
+
+    def ref_timer(self):
+        due = self.object.due
+        return E_OK, ([0, 0] if due is None else [1, due - self.board.now - 1])[self.arguments[1]]
+
     def ret_int(self):
         self.processor.line = self.processor.handler = None
         return SILENT
@@ -732,6 +809,7 @@ BAD_FIRST = lambda it: it.arguments[0] not in it.board.processors
 BAD_TURN = lambda it: it.arguments[0] > 16
 BAD_TIMEOUT = lambda it: it.timeout < -1
 BAD_TIME = lambda it: it.arguments[0] > 0x7FFFFFFF
+BAD_ALARM = lambda it: it.arguments[1] > 0x7FFFFFFF
 BAD_WISH = lambda it: it.arguments[1] == 0 or it.arguments[2] > 1
 NOT_OUT = lambda it: it.object and it.arguments[1] not in it.object.out
 BAD_MESSAGE = lambda it: it.object and it.object.by_message and not 1 <= it.arguments[2] <= it.object.priorities
@@ -760,7 +838,7 @@ MAILBOX_FULL = E_QOVR, lambda it: not it.object.waiters and len(it.object.messag
 CONSOLE_FULL = E_QOVR, lambda it: len(it.board.console) == CONSOLE_BYTES
 
 # `names`: what $a0 is the ID of: a task, the caller too by 0 (T0), a semaphore, a flag, a queue, a spin lock (L), a
-# mutex (M), a memory pool (P), a mailbox (B), or of nothing.
+# mutex (M), a memory pool (P), a mailbox (B), a cyclic handler (C), an alarm handler (A), or of nothing.
 Call = collections.namedtuple("Call", "name place names timeout limits refusals effect")
 CALLS = {
     1: Call("act_tsk", TASK, "T0", None, [], [REQUESTED], Request.activate),
@@ -847,5 +925,13 @@ CALLS = {
     90: Call("trcv_mbx", WAITING, "B", "A1", [BAD_TIMEOUT], [], Request.rcv_mbx),
     91: Call("ref_mpf", TASK, "P", None, [OF_TWO], [], Request.ref_mpf),
     92: Call("ref_mbx", TASK, "B", None, [OF_TWO], [], Request.ref_mbx),
+    93: Call("sta_cyc", TASK, "C", None, [], [], Request.sta_cyc),
+    94: Call("stp_cyc", TASK, "C", None, [], [], Request.stop),
+    95: Call("sta_alm", TASK, "A", None, [BAD_ALARM], [], Request.sta_alm),
+    96: Call("ista_alm", HANDLER, "A", None, [BAD_ALARM], [], Request.sta_alm),
+    97: Call("stp_alm", TASK, "A", None, [], [], Request.stop),
+    98: Call("istp_alm", HANDLER, "A", None, [], [], Request.stop),
+    99: Call("ref_cyc", TASK, "C", None, [OF_TWO], [], Request.ref_timer),
+    100: Call("ref_alm", TASK, "A", None, [OF_TWO], [], Request.ref_timer),
     112: Call("iget_pid", HANDLER, "", None, [], [], lambda it: (E_OK, it.processor.number)),
 }

@@ -152,8 +152,16 @@ No more reverse-execution history\.
 > info threads
 \* 1 +Thread 1 "task 1" \(cpu 1, dormant\) +0x80000018 in .*
   2 +Thread 2 "task 2" \(cpu 2, runs\) .*
-> printf "%x %x\n", $cause, $epc
-80000010 80000014
+> printf "%x %x %x\n", $cause, $epc, $badvaddr
+80000010 80000014 80000001
+> print $status
+\$2 = <unavailable>
+> thread 2
+.*
+> print $badvaddr
+\$3 = <unavailable>
+> thread 1
+.*
 > info all-registers
  +zero +at .*
 .*80000010.*
@@ -658,6 +666,31 @@ position 24 of 40: .*
 at 7
 > monitor mark 10
 unknown; .*
+> monitor mark before_the_store
+the mark stands at 7
+> monitor goto 9
+at 9
+> monitor mark before_the_store
+the mark stands at 9
+> monitor mark other.1
+the mark stands at 9
+> monitor goto 3
+at 3
+> monitor goto before_the_store
+at 9
+> monitor goto nowhere
+no mark has this name; .*
+> monitor where
+position 9 of 40: .*
+> monitor marks
+mark 0 stands at 7
+.*
+mark before_the_store stands at 9
+mark other.1 stands at 9
+> monitor mark a_name_that_is_longer_than_31_bytes
+unknown; .*
+> monitor goto 7
+at 7
 > monitor back 1
 at 0
 > monitor goto 41
@@ -669,9 +702,10 @@ goto N: goes to position N
 reset, restart: goes to position 0
 where: the position, and whose step comes
 mark N, back N: lets mark N of 0 to 9 stand here, goes to where it stands
+mark NAME, goto NAME: the same of a mark with a name; marks: where the marks stand
 threads tasks, threads processors: what threads are
 tasks: the tasks and their states
-objects: who waits for what
+objects: who waits for what, which task has which mutex, when time handlers are due
 console: what was written to the console
 help: these commands
 trace N: .*

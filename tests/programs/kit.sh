@@ -47,7 +47,7 @@ READ = ("addu $a0, $v0, $zero; $a0 = 00000001", "beq $v0, $zero, 0x80000014", "b
         "movz $v0, $t0, $t1", "mult $t0, $v0", "mthi $v0", "jr $v0", "slti $v0, $v0, 0", "sc $v0, 0($t0)",
         "div $v0, $t0", "jalr $ra, $v0", "lwl $v0, 0($t0)")
 WRITTEN = ("addiu $v0, $zero, 3; $v0 = 00000003", "lui $v0, 0x8000", "lw $v0, 0($t0)", "mflo $v0", "sig_sem(1) = E_OK",
-           "ext_tsk(), task 1 dormant", "ret_int()", "clz $v0, $t0", "service 99 = E_RSFN", "ll $v0, 0($t0)")
+           "ext_tsk(), task 1 dormant", "ret_int()", "clz $v0, $t0", "service 101 = E_RSFN", "ll $v0, 0($t0)")
 NEITHER = ("nop", "addiu $v1, $zero, 3", "jr $ra", "beq $t0, $t1, 0x80000014", "sw $v1, 0($a0)", "j 0x80000000", "mfhi $t0",
            "jal 0x80000000; $ra = 80000008", "sync")
 for texts, wanted in ((READ, True), (WRITTEN, False), (NEITHER, None)):
@@ -77,14 +77,16 @@ printf '%s\n' '@@1 1024' '@@2 -1' > "$work/values"
 printf '%s\n' '# 0 "a.cfg"' '# 1 "<command-line>"' '#define' '# 1 "a.cfg"' '# 1 "ids.h" 1' 'CRE_SEM(2, {TA_NULL});' \
     '# 2 "a.cfg" 2' '' 'BOARD(1, 0x10000);' '# 7 "a.cfg"' 'CLASS(TCL_1) { CRE_TSK(4, {TA_HLNG | TA_ACT, -1,' \
     '    go, 1, 2 * (256 +' '    256), NULL}); } DEF_INH(3, {TA_NULL,press});' \
-    'CRE_MPF(5, {TA_TFIFO | TA_TPRI, 2, 12, NULL});' > "$work/in"
+    'CRE_MPF(5, {TA_TFIFO | TA_TPRI, 2, 12, NULL});' 'CRE_CYC(0x1F, {TA_STA, 0, sample, 5, 0});' \
+    'CRE_ALM(2, {TA_HLNG, 7, give_up});' > "$work/in"
 printf '%s\n' '@@1 -1' '@@2 1024' > "$work/values"
 printf '%s\n' ' #define CRE_SEM(2, {TA_NULL});' '' 'BOARD(1, 0x10000);' '' '' '' \
     'CLASS(TCL_1) { CRE_TSK(4, {TA_HLNG | TA_ACT, 4294967295,' '    task_4, 1,' \
-    ' 1024, NULL}); } DEF_INH(3, {TA_NULL,handler_3});' 'CRE_MPF(5, {TA_TFIFO | TA_TPRI, 2, 12, NULL});' > "$work/wanted"
+    ' 1024, NULL}); } DEF_INH(3, {TA_NULL,handler_3});' 'CRE_MPF(5, {TA_TFIFO | TA_TPRI, 2, 12, NULL});' \
+    'CRE_CYC(0x1F, {TA_STA, 0, cyclic_0x1F, 5, 0});' 'CRE_ALM(2, {TA_HLNG, 7, alarm_2});' > "$work/wanted"
 verdict "kit: configure.awk" "$(configured < "$work/in" | diff "$work/wanted" -)"
-printf '%s\n' 'entry_board 0x10000' 'entry_task 4, go, 1024, NULL' 'entry_handler 3, press' 'entry_pool 2, 12, NULL' \
-    > "$work/wanted"
+printf '%s\n' 'entry_board 0x10000' 'entry_task 4, go, 1024, NULL' 'entry_handler handler_3, 3, press' 'entry_pool 2, 12, NULL' \
+    'entry_handler cyclic_0x1F, 92, sample' 'entry_handler alarm_2, 35, give_up' > "$work/wanted"
 verdict "kit: configure.awk for start.S" "$(diff "$work/wanted" "$work/entries")"
 
 have make "programs in C" || { summary; exit; }
@@ -107,7 +109,8 @@ awk 'BEGIN {
     }
     print "S 2 50000\nS 1 50000"
 }' > "$work/kit/shared/firmware.journal"
-projects=(examples/c_program examples/c_protocol examples/c_two_processors examples/c_messages "$work"/kit/*)
+projects=(examples/c_program examples/c_protocol examples/c_two_processors examples/c_messages examples/c_watchdog
+    "$work"/kit/*)
 what="programs in C, as Clang makes them"
 if ! have clang "$what" || ! have ld.lld "$what"; then
     :

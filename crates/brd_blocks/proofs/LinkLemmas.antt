@@ -1,6 +1,6 @@
 -- Links: which a store ends, and that they stay a set.
 use Rattle.std.proofs.Common.{◌≡◌, ℕ, zero, suc, ◌<◌, ◌≤◌, Bool, true, false, not, List, [], ◌∷◌, inl, inr, refl, sym, ap, subst, ◌∙◌, arith}
-use Rattle.std.specs.Prelude.{◌==◌, ◌&&◌, ◌||◌, nat_le, nat_lt, if◌then◌else◌, Option, None, Some, is_some, Result, Ok, Err}
+use Rattle.std.specs.Prelude.{◌==◌, ◌&&◌, ◌||◌, nat_le, nat_lt, if◌then◌else◌, Option, None, Some, Result, Ok, Err}
 use Rattle.std.proofs.lemmas.Bool.{false≢true, ne_eqb, cases_lt}
 use Rattle.std.proofs.lemmas.Bool.Decides.{nat_tests}
 use Rattle.brd_isa.specs.declared.instruction.Insn.{Insn}
@@ -17,7 +17,7 @@ use Rattle.brd_exec.specs.Step.{Effect, unless_stopped, with_code, load_gives, s
 use Rattle.brd_time.specs.Time.{last_count, advanced}
 use Rattle.brd_kernel.specs.declared.processor.Processor.{Processor}
 use Rattle.brd_kernel.specs.declared.processor.Executor.{Executor}
-use Rattle.brd_kernel.specs.Kernel.{processor_at, executor_on, context_of, deliverable, accepted_line, with_pending, line_at}
+use Rattle.brd_kernel.specs.Kernel.{processor_at, executor_on, context_of, deliverable, accepted_line, with_pending, can_be_raised}
 use Rattle.brd_kernel.specs.Waits.{ticked_on}
 use Rattle.brd_kernel.specs.Dispatch.{dispatched, changed_processors}
 use Rattle.brd_board.specs.Executing.{executed_by, executed_in}
@@ -238,7 +238,7 @@ on-set : (b : BoardState) (event : Event) → ((cpu : ℕ) → event ≡ Step cp
 on-set b (Step cpu) within set =
     let range = within cpu refl in stepped-set b cpu (processor_at b.kernel cpu) range.0 range.1 set
 on-set b Tick within set = ticked-set b (nat_lt b.kernel.time.count last_count) set
-on-set b (Raise line) within set = raised-set b line (is_some (line_at b.kernel line).handler) set
+on-set b (Raise line) within set = raised-set b line (can_be_raised b.kernel line) set
 
 off-set : (b : BoardState) (event : Event) (off : Bool) → ((cpu : ℕ) → event ≡ Step cpu → (1 ≤ cpu) × (cpu ≤ 8)) → IsLinkSet b.links →
     IsLinkSet (if off then reported b report.Off else happens_on b event).board.links

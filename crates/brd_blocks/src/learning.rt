@@ -1,6 +1,5 @@
 //! What is learnt of who touches which word, and of who terminates whom.
 
-ghost use Rattle.std.specs.Prelude.{◌≡◌};
 ghost use Rattle.brd_blocks.specs.Owning.{TasksStayMortal, WordsStayShared};
 
 use crate::footprint::{Access, access_of, insn_of};

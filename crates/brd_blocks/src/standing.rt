@@ -1,7 +1,6 @@
 //! Who executes on a processor stands well.
 
 ghost use Rattle.std.specs.Prelude.{◌≡◌, true};
-ghost use Rattle.brd_board.specs.Board.{registers_of, standing_of, task_of};
 ghost use Rattle.brd_blocks.specs.Looking.{is_ready_in, is_ready_state, stands_in, stands_on};
 ghost use Rattle.brd_blocks.specs.Stepping.{AllStandWell};
 

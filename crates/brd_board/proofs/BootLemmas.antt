@@ -11,7 +11,7 @@ use Rattle.brd_mem.specs.Image.{byte_in, segments_of_words, image_of_words}
 use Rattle.brd_mem.specs.declared.image.Segment.{Segment}
 use Rattle.brd_text.specs.Faults.{◌>>=◌}
 use Rattle.brd_board.specs.Board.{BoardState}
-use Rattle.brd_board.specs.Setup.{setups_from, placed_task, region_of, handlers_of, pools_from}
+use Rattle.brd_board.specs.Setup.{setups_from, placed_task, region_of, handlers_of, pools_from, each_placed}
 use Rattle.brd_board.specs.Boot.{boot, boot_words, words_ram, loaded, booted_board, booted_kernel, words_setup, words_config, memory_of, memory_of_words}
 use Rattle.brd_board.proofs.LoadLemmas.{turn, all_loaded, zero_bytes, copied-size}
 use Rattle.brd_board.specs.declared.boot.BootFault.{BootFault}
@@ -74,7 +74,7 @@ over : Result Memory BootFault → Result BoardState BootFault
 over memory = memory >>= (λ m. Ok (booted_board (booted_kernel (words_setup ∷ []) [] [] words_config) m))
 
 boot-over : (words : List ℕ) → boot (image_of_words words) words_config ≡ over (loaded Order.Big words_ram (segments_of_words words))
-unfolding boot over setups_from placed_task region_of handlers_of pools_from
+unfolding boot over setups_from placed_task region_of handlers_of pools_from each_placed
 boot-over words = refl
 
 over-words : (fit : Bool) (memory : Memory) → over (if fit then Ok memory else Err Outside) ≡ (if fit then Ok (booted_board (booted_kernel (words_setup ∷ []) [] [] words_config) memory) else Err Outside)

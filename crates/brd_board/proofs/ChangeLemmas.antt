@@ -14,7 +14,7 @@ use Rattle.brd_mem.specs.Memory.{Memory}
 use Rattle.brd_kernel.specs.declared.processor.Processor.{Processor}
 use Rattle.brd_kernel.specs.declared.processor.Executor.{Executor}
 use Rattle.brd_kernel.specs.declared.processor.Executor.TheVariants as executor
-use Rattle.brd_kernel.specs.Kernel.{KernelState, with_tasks, processor_at, running_in, running_on, unmarked, executor_on, with_context_of, handles, accepted_line, deliverable, line_at, with_pending}
+use Rattle.brd_kernel.specs.Kernel.{KernelState, with_tasks, processor_at, running_in, running_on, unmarked, executor_on, with_context_of, handles, accepted_line, deliverable, can_be_raised, with_pending}
 use Rattle.brd_board.specs.Executing.{Executed, executed_in, executed}
 use Rattle.brd_kernel.specs.Dispatch.{dispatched, is_same_task, has_changed, changed_processors}
 use Rattle.brd_kernel.proofs.SameLemmas.{Same, same-quits, same-prioritized, same-law}
@@ -180,7 +180,7 @@ ends-on b (Step cpu) = ends-stepped b cpu (processor_at b.kernel cpu)
 ends-on b Tick = ends-either (nat_lt b.kernel.time.count last_count) b _ _
     (ends-dispatched b (record b { kernel = ticked_on b.kernel (time_advanced b.kernel.time) })
     (runs (ticked_on b.kernel (time_advanced b.kernel.time)) b.kernel (same-ticked b.kernel))) (ends-reported b b (λ at. refl))
-ends-on b (Raise line) = ends-either (is_some (line_at b.kernel line).handler) b _ _ (ends-reported b (record b { kernel = with_pending b.kernel line }) (λ at. refl)) (ends-reported b b (λ at. refl))
+ends-on b (Raise line) = ends-either (can_be_raised b.kernel line) b _ _ (ends-reported b (record b { kernel = with_pending b.kernel line }) (λ at. refl)) (ends-reported b b (λ at. refl))
 
 pub change-ends-links : (b : BoardState) (event : Event) → EndsLinks b (happens b event).board
 unfolding happens

@@ -1,5 +1,5 @@
 -- One induction for every law of what holds of the kernel after every list of events from a boot.
-use Rattle.std.proofs.Common.{◌≡◌, ℕ, List, [], ◌∷◌, refl, ap, subst, ◌∙◌}
+use Rattle.std.proofs.Common.{◌≡◌, ℕ, List, [], ◌∷◌, ◌++◌, refl, ap, subst, ◌∙◌}
 use Rattle.std.proofs.lemmas.Bool.{false≢true}
 use Rattle.std.specs.Prelude.{Bool, true, false, Option, None, Some, Result, Ok, Err, unwrap_or, is_some, nat_lt, if◌then◌else◌, slice_index_or}
 use Rattle.brd_text.specs.Faults.{◌>>=◌}
@@ -20,7 +20,7 @@ use Rattle.brd_kernel.specs.declared.processor.LineSetup.{LineSetup}
 use Rattle.brd_kernel.specs.declared.processor.Processor.{Processor}
 use Rattle.brd_kernel.specs.declared.processor.Executor.{Executor}
 use Rattle.brd_kernel.specs.declared.processor.Executor.TheVariants as executor
-use Rattle.brd_kernel.specs.Kernel.{KernelState, with_tasks, processor_at, executor_on, with_context_of, accepted_line, with_pending, deliverable, line_at}
+use Rattle.brd_kernel.specs.Kernel.{KernelState, with_tasks, processor_at, executor_on, with_context_of, accepted_line, with_pending, deliverable, can_be_raised}
 use Rattle.brd_board.specs.Executing.{Executed, executed_in, executed}
 use Rattle.brd_kernel.specs.Waits.{ticked_on, ended_by_fault}
 use Rattle.brd_kernel.specs.Dispatch.{dispatched}
@@ -28,7 +28,7 @@ use Rattle.brd_sysgate.specs.Gate.{called}
 use Rattle.brd_board.specs.declared.event.Event.{Event}
 use Rattle.brd_board.specs.declared.event.Event.TheVariants.{Step, Tick, Raise}
 use Rattle.brd_board.specs.declared.boot.BootFault.{BootFault}
-use Rattle.brd_board.specs.Setup.{setups_of, has_ta_act, started_at_boot, all_started}
+use Rattle.brd_board.specs.Setup.{setups_of, handlers_of, pools_of, cyclics_of, alarms_of, has_ta_act, started_at_boot, all_started}
 use Rattle.brd_board.specs.Boot.{booted_kernel, booted_board, boot}
 use Rattle.brd_board.specs.Board.{BoardState, Happened, with_executed, happens, happens_on, after, stepped_in, accepts_or_executes, executes_in, instruction_done}
 
@@ -106,7 +106,7 @@ on-kept {P = P} kept b Tick was =
     either P (nat_lt b.kernel.time.count last_count) _ _
     (λ counted. kept.dispatch (ticked_on b.kernel (advanced b.kernel.time)) (kept.tick b.kernel was)) (λ over. was)
 on-kept {P = P} kept b (Raise line) was =
-    either P (is_some (line_at b.kernel line).handler) _ _ (λ handled. kept.raise b.kernel line was) (λ none. was)
+    either P (can_be_raised b.kernel line) _ _ (λ handled. kept.raise b.kernel line was) (λ none. was)
 
 pub happens-kept : {P Q : KernelState → Type 0} (kept : Kept P Q) (b : BoardState) (event : Event) → P b.kernel → P (happens b event).board.kernel
 unfolding happens
@@ -140,18 +140,23 @@ Begins P config setups =
     (s : List TaskSetup) (l : List LineSetup) (p : List PoolSetup) (m : Memory) → setups ≡ Ok s → P (booted_board (booted_kernel s l p config) m)
 
 booted-by : (P : BoardState → Type 0) (config : Configuration) (memory : Result Memory BootFault) (setups : Result (List TaskSetup) BootFault)
-    (lines : Result (List LineSetup) BootFault) (pools : Result (List PoolSetup) BootFault) → Begins P config setups →
-    IsBooted P (memory >>= (λ m. setups >>= (λ s. lines >>= (λ l. pools >>= (λ p. Ok (booted_board (booted_kernel s l p config) m))))))
-booted-by P config (Err fault) setups lines pools begins = tt
-booted-by P config (Ok m) (Err fault) lines pools begins = tt
-booted-by P config (Ok m) (Ok s) (Err fault) pools begins = tt
-booted-by P config (Ok m) (Ok s) (Ok l) (Err fault) begins = tt
-booted-by P config (Ok m) (Ok s) (Ok l) (Ok p) begins = begins s l p m refl
+    (lines : Result (List LineSetup) BootFault) (pools : Result (List PoolSetup) BootFault) (cyclics alarms : Result (List LineSetup) BootFault) → Begins P config setups →
+    IsBooted P (memory >>= (λ m. setups >>= (λ s. lines >>= (λ l. pools >>= (λ p. cyclics >>= (λ c. alarms >>= (λ a. Ok (booted_board (booted_kernel s ((l ++ c) ++ a) p config) m))))))))
+booted-by P config (Err fault) setups lines pools cyclics alarms begins = tt
+booted-by P config (Ok m) (Err fault) lines pools cyclics alarms begins = tt
+booted-by P config (Ok m) (Ok s) (Err fault) pools cyclics alarms begins = tt
+booted-by P config (Ok m) (Ok s) (Ok l) (Err fault) cyclics alarms begins = tt
+booted-by P config (Ok m) (Ok s) (Ok l) (Ok p) (Err fault) alarms begins = tt
+booted-by P config (Ok m) (Ok s) (Ok l) (Ok p) (Ok c) (Err fault) begins = tt
+booted-by P config (Ok m) (Ok s) (Ok l) (Ok p) (Ok c) (Ok a) begins = begins s ((l ++ c) ++ a) p m refl
 
 booted : (P : BoardState → Type 0) (image : Image) (config : Configuration) → Begins P config (setups_of config.ram image.symbols config.tasks) →
     IsBooted P (boot image config)
 unfolding boot
-booted P image config begins = booted-by P config _ (setups_of config.ram image.symbols config.tasks) _ _ begins
+booted P image config begins =
+    booted-by P config _ (setups_of config.ram image.symbols config.tasks) (handlers_of config.ram image.symbols config.handlers)
+    (pools_of config.ram image.symbols config.tasks config.pools) (cyclics_of config.ram image.symbols config.cyclics)
+    (alarms_of config.ram image.symbols config.alarms) begins
 
 -- what holds of each board that boot may make, holds of the one that it makes
 pub boot-begins : (P : BoardState → Type 0) (image : Image) (config : Configuration) (b : BoardState) →

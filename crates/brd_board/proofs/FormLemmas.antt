@@ -1,6 +1,6 @@
 -- No event changes how many bytes RAM has, or their order.
 use Rattle.std.proofs.Common.{◌≡◌, ℕ, List, [], ◌∷◌, refl, ◌∙◌}
-use Rattle.std.specs.Prelude.{Bool, true, false, Option, None, Some, if◌then◌else◌, nat_lt, is_some}
+use Rattle.std.specs.Prelude.{Bool, true, false, Option, None, Some, if◌then◌else◌, nat_lt}
 use Rattle.brd_mem.specs.Memory.{Memory, size_of}
 use Rattle.brd_exec.specs.State.{State}
 use Rattle.brd_exec.specs.Step.{Ran, ran}
@@ -9,7 +9,7 @@ use Rattle.brd_exec.specs.declared.outcome.Outcome.TheVariants.{Done, Syscall, E
 use Rattle.brd_exec.proofs.FormLemmas.{IsAlike, form-ran}
 use Rattle.brd_time.specs.Time.{last_count, advanced}
 use Rattle.brd_kernel.specs.declared.processor.Processor.{Processor}
-use Rattle.brd_kernel.specs.Kernel.{context_of, executor_on, deliverable, processor_at, with_pending, line_at}
+use Rattle.brd_kernel.specs.Kernel.{context_of, executor_on, deliverable, processor_at, with_pending, can_be_raised}
 use Rattle.brd_board.specs.Executing.{executed_by, executed_in}
 use Rattle.brd_kernel.specs.declared.processor.Executor.{Executor}
 use Rattle.brd_kernel.specs.Waits.{ticked_on}
@@ -58,7 +58,7 @@ form-on b Tick =
     form-either (nat_lt b.kernel.time.count last_count) b
     (then_dispatched (record b { kernel = ticked_on b.kernel (advanced b.kernel.time) }) report.Ticked) (reported b report.TimeOver) (as-it-was b.memory) (as-it-was b.memory)
 form-on b (Raise line) =
-    form-either (is_some (line_at b.kernel line).handler) b
+    form-either (can_be_raised b.kernel line) b
     (reported (record b { kernel = with_pending b.kernel line }) report.Raised) (reported b report.NoSuch) (as-it-was b.memory) (as-it-was b.memory)
 
 pub form-happens : (b : BoardState) (event : Event) → IsAlike b.memory (happens b event).board.memory

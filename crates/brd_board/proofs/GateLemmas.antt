@@ -15,7 +15,6 @@ use Rattle.brd_kernel.proofs.ThereLemmas.{first-of, second-of}
 use Rattle.brd_kernel.proofs.WalkLemmas.{CallerStop, GoesOn, Locks, Unlocks, MayWait, Waits, Names, Ends, stop_of, MayStop}
 use Rattle.brd_sysgate.specs.declared.gate.Agent.{Agent}
 use Rattle.brd_sysgate.specs.declared.gate.Agent.TheVariants.{Task, Handler}
-use Rattle.brd_sysgate.specs.declared.gate.Caller.{Caller}
 use Rattle.brd_sysgate.specs.declared.place.Place.{Place}
 use Rattle.brd_sysgate.specs.declared.place.Place.TheVariants as place
 use Rattle.brd_sysgate.specs.Gate.{Service, table_of, a0, is_oneself, may_call, arguments_of, allowed, read_of, agent_by}

@@ -4,7 +4,7 @@ use Rattle.std.proofs.lemmas.Bool.{cases_lt}
 use Rattle.std.specs.Prelude.{◌==◌, ◌%◌, Option, None, Some, IfSome, option_map, if◌then◌else◌}
 use Rattle.brd_mem.specs.Window.{window_start, window_at}
 use Rattle.brd_exec.specs.State.{State}
-use Rattle.brd_exec.specs.Lent.{lent_step, lent_on, lent}
+use Rattle.brd_exec.specs.Lent.{lent_on, lent}
 use Rattle.brd_kernel.specs.declared.processor.Processor.{Processor}
 use Rattle.brd_kernel.specs.declared.processor.Executor.{Executor}
 use Rattle.brd_kernel.specs.Kernel.{KernelState, processor_at, executor_on, context_of, with_context_of, standing_in, marks_of}

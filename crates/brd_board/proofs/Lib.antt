@@ -3,6 +3,7 @@ pub mod BootLemmas
 pub mod LinkLemmas
 pub mod SetupLemmas
 mod PoolLemmas
+mod TimeHandlerLemmas
 pub mod EventLemmas
 pub mod LawLemmas
 pub mod conditional_stores

@@ -18,7 +18,7 @@ use Rattle.brd_kernel.specs.declared.processor.Processor.{Processor}
 use Rattle.brd_kernel.specs.declared.processor.Executor.{Executor}
 use Rattle.brd_kernel.specs.declared.processor.Executor.TheVariants as executor
 use Rattle.brd_kernel.specs.declared.processor.Standing.TheVariants as standing
-use Rattle.brd_kernel.specs.Kernel.{KernelState, processor_at, running_in, executor_by, executor_in, executor_on, handler_context_at, context_of, context_on, with_context_of, standing_by, standing_in, deliverable, line_at}
+use Rattle.brd_kernel.specs.Kernel.{KernelState, processor_at, running_in, executor_by, executor_in, executor_on, handler_context_at, context_of, context_on, with_context_of, standing_by, standing_in, deliverable, can_be_raised}
 use Rattle.brd_board.specs.Executing.{Executed, executed_by, executed_in, executed}
 use Rattle.brd_kernel.specs.Waits.{shown_until, seen_at}
 use Rattle.brd_kernel.specs.Running.{IsRunning}
@@ -132,6 +132,7 @@ record Stays (k new : KernelState) : Type 0 where
   spin_locks : new.spin_locks ≡ k.spin_locks
   lines : new.lines ≡ k.lines
   time : new.time ≡ k.time
+  timers : new.timers ≡ k.timers
   clock : new.clock ≡ k.clock
   standard : new.standard ≡ k.standard
   console : new.console ≡ k.console
@@ -150,6 +151,7 @@ stays k cpu executor.Handler s = record {
   spin_locks = refl;
   lines = refl;
   time = refl;
+  timers = refl;
   clock = refl;
   standard = refl;
   console = refl;
@@ -167,6 +169,7 @@ stays k cpu (executor.Task id) s = record {
   spin_locks = refl;
   lines = refl;
   time = refl;
+  timers = refl;
   clock = refl;
   standard = refl;
   console = refl;
@@ -205,6 +208,7 @@ own-instruction b cpu who left was executes =
       spin_locks = rest.spin_locks;
       lines = rest.lines;
       time = rest.time;
+      timers = rest.timers;
       clock = rest.clock;
       standard = rest.standard;
       console = rest.console;
@@ -259,7 +263,7 @@ own-on b Tick was =
     either (nat_lt b.kernel.time.count last_count) b Tick _ _ (λ address told. let wrong : ⊥ = cc in absurd wrong)
     (λ address told. let wrong : ⊥ = cc in absurd wrong)
 own-on b (Raise line) was =
-    either (is_some (line_at b.kernel line).handler) b (Raise line) _ _ (λ address told. let wrong : ⊥ = cc in absurd wrong)
+    either (can_be_raised b.kernel line) b (Raise line) _ _ (λ address told. let wrong : ⊥ = cc in absurd wrong)
     (λ address told. let wrong : ⊥ = cc in absurd wrong)
 
 own-event : (b : BoardState) (event : Event) → IsRunning b.kernel → Owns b event (happens b event)

@@ -15,7 +15,7 @@ use Rattle.brd_exec.specs.State.{State}
 use Rattle.brd_kernel.specs.declared.processor.Processor.{Processor}
 use Rattle.brd_kernel.specs.declared.processor.Executor.{Executor}
 use Rattle.brd_kernel.specs.declared.processor.Executor.TheVariants as executor
-use Rattle.brd_kernel.specs.Kernel.{KernelState, with_tasks, processor_at, with_context_of, with_pending, handles, accepted_line}
+use Rattle.brd_kernel.specs.Kernel.{KernelState, with_tasks, processor_at, with_context_of, with_pending, handles}
 use Rattle.brd_kernel.specs.Dispatch.{dispatched}
 use Rattle.brd_kernel.specs.Prioritized.{IsPrioritized}
 use Rattle.brd_kernel.proofs.PriorityLemmas.{parts-have, serve-has, ticked-has, fault-has}

@@ -1,6 +1,6 @@
 -- After every list of events from a boot the kernel has the profile just where its configuration asks for it.
 use Rattle.std.proofs.Common.{◌≡◌, ◌<◌, ℕ, Bool, false, List, refl, ◌∙◌}
-use Rattle.std.specs.Prelude.{Result, Ok, Err}
+use Rattle.std.specs.Prelude.{Ok, Err}
 use Rattle.brd_mem.specs.declared.image.Image.{Image}
 use Rattle.brd_config.specs.Configuration.{Configuration}
 use Rattle.brd_exec.specs.State.{State, read}

@@ -18,7 +18,7 @@ use Rattle.brd_kernel.specs.declared.processor.LineSetup.{LineSetup}
 use Rattle.brd_kernel.specs.declared.processor.Processor.{Processor}
 use Rattle.brd_kernel.specs.declared.processor.Spin.TheVariants as spin
 use Rattle.brd_kernel.specs.declared.processor.Executor.{Executor}
-use Rattle.brd_kernel.specs.Kernel.{KernelState, with_tasks, processor_at, running_in, running_on, executor_on, with_context_of, holds, spin_of, accepted_line, deliverable, line_at, with_pending}
+use Rattle.brd_kernel.specs.Kernel.{KernelState, with_tasks, processor_at, running_in, running_on, executor_on, with_context_of, holds, spin_of, accepted_line, deliverable, can_be_raised, with_pending}
 use Rattle.brd_board.specs.Executing.{Executed, executed_in, executed}
 use Rattle.brd_kernel.specs.Dispatch.{dispatched}
 use Rattle.brd_kernel.specs.Holding.{AreLocks}
@@ -178,7 +178,7 @@ on-passes b Tick was =
     (same-passes (mover Tick) b.kernel (ticked_on b.kernel (advanced b.kernel.time)) was (same-ticked b.kernel)))
     (quiet (mover Tick) b.kernel was)
 on-passes b (Raise line) was =
-    either (Passes (mover (Raise line)) b.kernel) (is_some (line_at b.kernel line).handler) _ _
+    either (Passes (mover (Raise line)) b.kernel) (can_be_raised b.kernel line) _ _
     (same-passes (mover (Raise line)) b.kernel (with_pending b.kernel line) was (same-pending b.kernel line))
     (quiet (mover (Raise line)) b.kernel was)
 

@@ -1,6 +1,6 @@
 -- An event that is no step with a store leaves memory.
 use Rattle.std.proofs.Common.{◌≡◌, ℕ, refl}
-use Rattle.std.specs.Prelude.{Bool, true, false, Option, None, Some, if◌then◌else◌, nat_lt, is_some, option_map}
+use Rattle.std.specs.Prelude.{Bool, true, false, Option, None, Some, if◌then◌else◌, nat_lt, option_map}
 use Rattle.brd_exec.specs.State.{State}
 use Rattle.brd_exec.specs.Step.{Ran, ran}
 use Rattle.brd_exec.specs.declared.outcome.Outcome.{Outcome}
@@ -8,7 +8,7 @@ use Rattle.brd_exec.specs.declared.outcome.Outcome.TheVariants.{Done, Syscall, E
 use Rattle.brd_exec.proofs.StoringLemmas.{kept-ran}
 use Rattle.brd_time.specs.Time.{last_count, advanced}
 use Rattle.brd_kernel.specs.declared.processor.Processor.{Processor}
-use Rattle.brd_kernel.specs.Kernel.{context_of, context_on, executor_on, deliverable, processor_at, with_pending, line_at}
+use Rattle.brd_kernel.specs.Kernel.{context_of, context_on, executor_on, deliverable, processor_at, with_pending, can_be_raised}
 use Rattle.brd_board.specs.Executing.{executed_by, executed_in}
 use Rattle.brd_kernel.specs.declared.processor.Executor.{Executor}
 use Rattle.brd_kernel.specs.Waits.{ticked_on}
@@ -56,7 +56,7 @@ same-on b Tick none =
     same-either (nat_lt b.kernel.time.count last_count) b
     (then_dispatched (record b { kernel = ticked_on b.kernel (advanced b.kernel.time) }) report.Ticked) (reported b report.TimeOver) refl refl
 same-on b (Raise line) none =
-    same-either (is_some (line_at b.kernel line).handler) b
+    same-either (can_be_raised b.kernel line) b
     (reported (record b { kernel = with_pending b.kernel line }) report.Raised) (reported b report.NoSuch) refl refl
 
 pub same-happens : (b : BoardState) (event : Event) → may_store b event ≡ false → (happens b event).board.memory ≡ b.memory

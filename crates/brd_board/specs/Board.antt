@@ -1,6 +1,6 @@
 -- The board: what it consists of, what one event does to it, and what a list of events does.
 use Rattle.std.specs.Prelude.{ℕ, nat_lt, nat_le, ◌&&◌, if◌then◌else◌, List, [], ◌∷◌, slice_index_or, slice_set, Option}
-use Rattle.std.specs.Prelude.{Some, None, is_some}
+use Rattle.std.specs.Prelude.{Some, None}
 use Rattle.brd_link.specs.LinkSet.{LinkSet, linked_address, without, without_all}
 use Rattle.brd_mem.specs.Memory.{Memory}
 use Rattle.brd_exec.specs.State.{State}
@@ -12,7 +12,7 @@ use Rattle.brd_kernel.specs.declared.processor.Processor.{Processor}
 use Rattle.brd_kernel.specs.declared.processor.Standing.{Standing}
 use Rattle.brd_kernel.specs.declared.processor.Spin.{Spin}
 use Rattle.brd_kernel.specs.Kernel.{KernelState, processor_at, context_on, deliverable, accepted_line, with_pending}
-use Rattle.brd_kernel.specs.Kernel.{line_at, standing_on, spin_of, owner_of}
+use Rattle.brd_kernel.specs.Kernel.{can_be_raised, standing_on, spin_of, owner_of}
 use Rattle.brd_kernel.specs.Waits.{ended_by_fault, ticked_on, seen_at}
 use Rattle.brd_kernel.specs.Dispatch.{dispatched, changed_processors}
 use Rattle.brd_sysgate.specs.Gate.{called}
@@ -93,17 +93,17 @@ stepped_in b cpu (Some p) =
 abbrev pub stepped : BoardState → ℕ → Happened
 stepped b cpu = stepped_in b cpu (processor_at b.kernel cpu)
 
--- a tick passes, and the waits end whose tick has come; unless the last one has been counted
+-- a tick passes: the waits end whose tick has come, and time handlers are due; unless the last one has been counted
 abbrev pub tick_passed : BoardState → Happened
 tick_passed b =
     if nat_lt b.kernel.time.count last_count
     then then_dispatched (record b { kernel = ticked_on b.kernel (advanced b.kernel.time) }) report.Ticked
     else reported b report.TimeOver
 
--- an interrupt is raised, where its line has a handler
+-- an interrupt is raised, where its line can be raised
 abbrev pub line_raised : BoardState → ℕ → Happened
 line_raised b line =
-    if is_some (line_at b.kernel line).handler
+    if can_be_raised b.kernel line
     then reported (record b { kernel = with_pending b.kernel line }) report.Raised
     else reported b report.NoSuch
 

@@ -21,7 +21,7 @@ use Rattle.brd_kernel.specs.Kernel.{KernelState, with_tasks}
 use Rattle.brd_kernel.specs.Making.{made_kernel}
 use Rattle.brd_kernel.specs.Dispatch.{dispatched}
 use Rattle.brd_board.specs.Board.{BoardState}
-use Rattle.brd_board.specs.Setup.{setups_of, handlers_of, pools_of, ta_act, all_started}
+use Rattle.brd_board.specs.Setup.{setups_of, handlers_of, pools_of, cyclics_of, alarms_of, ta_act, all_started}
 use Rattle.brd_board.specs.declared.boot.BootFault.{BootFault}
 use Rattle.brd_board.specs.declared.boot.BootFault.TheVariants.{Outside}
 
@@ -53,7 +53,7 @@ abbrev pub booted_board : KernelState → Memory → BoardState
 booted_board kernel memory = record { kernel = kernel; memory = memory; links = []; faults = replicate 9 None }
 
 -- The board that an image and a configuration make, or the first fault: of the segments, of the tasks, of the handlers,
--- of the memory pools. Its byte order is the image's.
+-- of the memory pools, of the cyclic handlers, of the alarm handlers. Its byte order is the image's.
 -- Tasks start where the configuration says, whatever entry the image names.
 unfoldable pub boot : Image → Configuration → Result BoardState BootFault
 boot image config = do
@@ -61,7 +61,9 @@ boot image config = do
   setups ← setups_of config.ram image.symbols config.tasks
   lines ← handlers_of config.ram image.symbols config.handlers
   pools ← pools_of config.ram image.symbols config.tasks config.pools
-  Ok (booted_board (booted_kernel setups lines pools config) memory)
+  cyclics ← cyclics_of config.ram image.symbols config.cyclics
+  alarms ← alarms_of config.ram image.symbols config.alarms
+  Ok (booted_board (booted_kernel setups ((lines ++ cyclics) ++ alarms) pools config) memory)
 
 -- Words: their image is booted with 64 KiB of RAM and one task, which starts at RAM's first address.
 
@@ -95,6 +97,8 @@ words_config =
       mutexes = [];
       pools = [];
       mailboxes = [];
+      cyclics = [];
+      alarms = [];
       handlers = [];
     }
 

@@ -46,6 +46,7 @@ pub record ChangesOnlyItsOwn (b : BoardState) (event : Event) (address : ℕ) (n
   pub spin_locks : new.kernel.spin_locks ≡ b.kernel.spin_locks
   pub lines : new.kernel.lines ≡ b.kernel.lines
   pub time : new.kernel.time ≡ b.kernel.time
+  pub timers : new.kernel.timers ≡ b.kernel.timers
   pub clock : new.kernel.clock ≡ b.kernel.clock
   pub standard : new.kernel.standard ≡ b.kernel.standard
   pub console : new.kernel.console ≡ b.kernel.console

@@ -1,9 +1,10 @@
--- What a configuration makes of an image: where each task starts and where its stack lies, which tasks are started, where
--- the handler of each interrupt line starts, and where the blocks of each memory pool lie. Where the configuration names a symbol of the image, its value is
--- meant. The first fault in the order of the statements is answered; of one statement first all its symbols are looked
--- up, then its addresses are tested.
-use Rattle.std.specs.Prelude.{ℕ, ◌+◌, ◌-◌, ◌*◌, ◌%◌, ◌==◌, Bool, true, false, ◌&&◌, if◌then◌else◌, List, [], ◌∷◌, Result, Ok}
-use Rattle.std.specs.Prelude.{Err}
+-- What a configuration makes of an image: where each task starts and where its stack lies, which tasks are started,
+-- where the handler of each interrupt line starts, where the blocks of each memory pool lie, and where each time
+-- handler starts and when it is due. Where the configuration names a symbol of the image, its value is meant. The first
+-- fault in the order of the statements is answered; of one statement first all its symbols are looked up, then its
+-- addresses are tested.
+use Rattle.std.specs.Prelude.{ℕ, ◌+◌, ◌-◌, ◌*◌, ◌%◌, ◌==◌, Bool, true, false, ◌&&◌, if◌then◌else◌, List, [], ◌∷◌}
+use Rattle.std.specs.Prelude.{None, Some, Result, Ok, Err}
 use Rattle.std.specs.Int.RustNames.{bit_and}
 use Rattle.brd_base.specs.Space.{base}
 use Rattle.brd_text.specs.Faults as text
@@ -17,6 +18,8 @@ use Rattle.brd_config.specs.declared.objects.Stack.{Stack}
 use Rattle.brd_config.specs.declared.objects.Stack.TheVariants.{Automatic, At}
 use Rattle.brd_config.specs.declared.objects.TaskConfig.{TaskConfig}
 use Rattle.brd_config.specs.declared.objects.HandlerConfig.{HandlerConfig}
+use Rattle.brd_config.specs.declared.objects.CyclicConfig.{CyclicConfig}
+use Rattle.brd_config.specs.declared.objects.AlarmConfig.{AlarmConfig}
 use Rattle.brd_config.specs.declared.objects.PoolConfig.{PoolConfig}
 use Rattle.brd_objects.specs.declared.block.PoolSetup.{PoolSetup}
 use Rattle.brd_objects.specs.Pools.{distance_of}
@@ -24,6 +27,9 @@ use Rattle.brd_tasks.specs.declared.task.TaskSetup.{TaskSetup}
 use Rattle.brd_tasks.specs.declared.task.Request.TheVariants.{Assigned}
 use Rattle.brd_tasks.specs.Tasks.{TaskTable, activated}
 use Rattle.brd_kernel.specs.declared.processor.LineSetup.{LineSetup}
+use Rattle.brd_timers.specs.declared.course.Course.TheVariants.{Cyclic, Alarm}
+use Rattle.brd_timers.specs.declared.course.Cycle.{Cycle}
+use Rattle.brd_kernel.specs.Kernel.{timer_line, cyclic_place, alarm_place}
 use Rattle.brd_board.specs.declared.boot.BootFault.{BootFault}
 use Rattle.brd_board.specs.declared.boot.BootFault.TheVariants.{NoMemory, UnknownSymbol, Outside}
 use Rattle.brd_board.specs.declared.setup.Region.{Region}
@@ -110,10 +116,13 @@ handler_address size symbols operand = do
   address ← value_of symbols operand
   if is_code_address size address then Ok address else Err Outside
 
--- the line of a handler that starts there; the processor takes the line's interrupts
+-- the line of a handler that starts there, and finds the line in $a0; the processor takes the line's interrupts
 abbrev pub line_of : HandlerConfig → ℕ → LineSetup
-line_of handler address =
-    record { line = handler.line; handler = record { cpu = handler.processor; address = address } }
+line_of handler address = record {
+  line = handler.line;
+  handler = record { cpu = handler.processor; address = address; argument = handler.line };
+  course = None;
+}
 
 -- the lines that have a handler, in the order of the handlers' statements
 unfoldable pub handlers_of : ℕ → List Symbol → List HandlerConfig → Result (List LineSetup) BootFault
@@ -122,6 +131,59 @@ handlers_of size symbols (handler ∷ handlers) = do
   address ← handler_address size symbols handler.address
   lines ← handlers_of size symbols handlers
   Ok (line_of handler address ∷ lines)
+
+-- Time handlers, each on the line of its ID; it starts there, and finds its exinf in $a0.
+
+abbrev pub ta_sta : ℕ
+ta_sta = 2
+
+abbrev pub ta_phs : ℕ
+ta_phs = 4
+
+-- the times of a cyclic handler
+abbrev pub cycle_of : CyclicConfig → Cycle
+cycle_of cyclic = record {
+  period = cyclic.period;
+  phase = cyclic.phase;
+  starts = bit_and cyclic.attributes.0 ta_sta == ta_sta;
+  keeps = bit_and cyclic.attributes.0 ta_phs == ta_phs;
+}
+
+unfoldable pub placed_cyclic : ℕ → List Symbol → CyclicConfig → Result LineSetup BootFault
+placed_cyclic size symbols cyclic = do
+  argument ← value_of symbols cyclic.exinf
+  address ← handler_address size symbols cyclic.address
+  Ok (record {
+    line = timer_line (cyclic_place cyclic.id);
+    handler = record { cpu = cyclic.processor; address = address; argument = argument };
+    course = Some (Cyclic (cycle_of cyclic));
+  })
+
+unfoldable pub placed_alarm : ℕ → List Symbol → AlarmConfig → Result LineSetup BootFault
+placed_alarm size symbols alarm = do
+  argument ← value_of symbols alarm.exinf
+  address ← handler_address size symbols alarm.address
+  Ok (record {
+    line = timer_line (alarm_place alarm.id);
+    handler = record { cpu = alarm.processor; address = address; argument = argument };
+    course = Some Alarm;
+  })
+
+-- what is placed of each of these, in their order, or the first fault
+unfoldable pub each_placed : {X Y : Type 0} → (X → Result Y BootFault) → List X → Result (List Y) BootFault
+each_placed placed [] = Ok []
+each_placed placed (x ∷ xs) = do
+  one ← placed x
+  others ← each_placed placed xs
+  Ok (one ∷ others)
+
+-- the lines of the cyclic handlers and of the alarm handlers, in the order of their statements
+
+abbrev pub cyclics_of : ℕ → List Symbol → List CyclicConfig → Result (List LineSetup) BootFault
+cyclics_of size symbols cyclics = each_placed (placed_cyclic size symbols) cyclics
+
+abbrev pub alarms_of : ℕ → List Symbol → List AlarmConfig → Result (List LineSetup) BootFault
+alarms_of size symbols alarms = each_placed (placed_alarm size symbols) alarms
 
 -- Memory pools (own choice where they lie).
 

@@ -2,7 +2,7 @@
 
 ghost use Rattle.std.specs.Prelude.{◌≡◌, Decides, ◌≤◌, All, IfOk, IfSome, replicate, None};
 ghost use Rattle.brd_config.specs.View.{view};
-ghost use Rattle.brd_kernel.specs.Kernel.{executor_on, line_at};
+ghost use Rattle.brd_kernel.specs.Kernel.{executor_on, line_at, timer_due};
 ghost use Rattle.brd_kernel.specs.Always.{HasContext, HasPlace};
 ghost use Rattle.brd_tasks.specs.Ready.{IsProcessor, IsSetup};
 ghost use Rattle.brd_board.specs.Board.{
@@ -43,6 +43,7 @@ use crate::load::loaded;
 use crate::pools::pools_of;
 use crate::setup::{handlers_of, setups_of, start_all};
 use crate::snapshot::Snapshot;
+use crate::time_handlers::{alarms_of, cyclics_of};
 use crate::view::Fault;
 use brd_base::{BASE, List, NoMemory, copy_with_room, same_slices};
 use brd_config::{Config, Operand, Stack, TaskAttributes, TaskConfig};
@@ -97,7 +98,8 @@ impl Drop for Board {
 impl Board {
     /// The board that an image and a configuration make, in the image's byte order. Its tasks with TA_ACT have been
     /// started, and no interrupt is pending. A fault is the first one: of the segments, of the tasks in the order of
-    /// their statements, of the handlers in theirs, of the memory pools in theirs.
+    /// their statements, of the handlers in theirs, of the memory pools in theirs, of the cyclic handlers and the alarm
+    /// handlers in theirs.
     #[tactic(auto, unfolding(crate::specs::Boot::boot))]
     pub fn boot(alloc: Global, image: &Image, config: &Config) -> Result<Board, BootFault>
         requires { IsLoadable image.now }
@@ -107,8 +109,12 @@ impl Board {
         let symbols = image.symbols.as_slice();
         let tasks = config.tasks.as_slice();
         let setups = setups_of(alloc, &ram, symbols, tasks)?;
-        let lines = handlers_of(alloc, &ram, symbols, config.handlers.as_slice())?;
+        let mut lines = handlers_of(alloc, &ram, symbols, config.handlers.as_slice())?;
         let pools = pools_of(alloc, &ram, symbols, tasks, config.pools.as_slice())?;
+        let cyclics = cyclics_of(alloc, &ram, symbols, config.cyclics.as_slice())?;
+        let alarms = alarms_of(alloc, &ram, symbols, config.alarms.as_slice())?;
+        lines.append(cyclics.as_slice())?;
+        lines.append(alarms.as_slice())?;
         Ok(Board {
             kernel: started(
                 alloc,
@@ -451,6 +457,14 @@ impl Board {
         self.kernel.is_pending(line)
     }
 
+    /// The tick at which a time handler is due next, so that its line is pending from then on; None where it is stopped,
+    /// or isn't there. The cyclic handler of ID C has place 2C - 2, the alarm handler of ID A place 2A - 1, up to 127.
+    pub fn timer_due(&self, place: u8) -> Option<u64>
+        ensures { result ≡ timer_due self.now.kernel place }
+    {
+        self.kernel.timer_due(place)
+    }
+
     /// The word that a processor's link is to, from an LL on; None where it has none.
     pub fn link(&self, cpu: u8) -> Option<u32>
         ensures { result ≡ linked_word_of self.now cpu }
@@ -520,6 +534,8 @@ fn words_config(alloc: Global) -> Result<Config, NoMemory>
         mutexes: List::new(alloc),
         pools: List::new(alloc),
         mailboxes: List::new(alloc),
+        cyclics: List::new(alloc),
+        alarms: List::new(alloc),
         handlers: List::new(alloc),
     })
 }

@@ -15,8 +15,8 @@ pub enum BootFault {
     /// A name of the configuration isn't one of the image's symbols.
     #[error("the configuration names a symbol that the image doesn't have")]
     UnknownSymbol,
-    /// A segment, a task's stack, the blocks of a memory pool, or the address of a task or a handler isn't in RAM, or the
-    /// blocks or such an address isn't aligned.
+    /// A segment, a task's stack, the blocks of a memory pool, or the address of a task or a handler isn't in RAM, or
+    /// the blocks or such an address isn't aligned.
     #[error("a segment, a stack, a memory pool or a start isn't in the board's RAM, or a pool or a start isn't aligned")]
     Outside,
 }

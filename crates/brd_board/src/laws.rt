@@ -64,8 +64,8 @@ pub fn who_waits_stands_in_its_list()
 /// that is queued; none for a semaphore whose count isn't 0; none for a mutex that nobody has; none for bits of an
 /// event flag while the pattern satisfies the wait (TWF_ANDW: all of them are set; TWF_ORW: any of them), nor for an
 /// empty set of bits; none to send to a data queue that has room; none to receive from one that stores a datum, or to
-/// which another task waits to send one; none for a memory pool of which a block is there; none for a mailbox in which a
-/// message is. And if waiters stand in the order of priority, none stands in front of one with a higher priority.
+/// which another task waits to send one; none for a memory pool of which a block is there; none for a mailbox in which
+/// a message is. And if waiters stand in the order of priority, none stands in front of one with a higher priority.
 ///
 /// This is the part `each` of `WaitsAreKept`, and speaks of the waiting lists; that each task that waits for an object
 /// stands in its list is said by `who_waits_stands_in_its_list`.

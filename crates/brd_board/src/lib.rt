@@ -15,6 +15,7 @@ mod load;
 mod pools;
 mod setup;
 mod snapshot;
+mod time_handlers;
 mod view;
 
 pub use board::Board;

@@ -1,7 +1,7 @@
 //! What a configuration makes of an image: its tasks with their stacks, which of them are started, and where handlers
 //! start.
 
-ghost use Rattle.std.specs.Prelude.{◌≡◌, ◌≤◌, ◌<◌, ◌+◌, All, IfOk};
+ghost use Rattle.std.specs.Prelude.{◌≡◌, ◌≤◌, ◌+◌, All, IfOk};
 ghost use Rattle.brd_mem.specs.Memory.{size_of};
 ghost use Rattle.brd_config.specs.Configuration.{IsTask};
 ghost use Rattle.brd_tasks.specs.Ready.{IsSetup};
@@ -152,7 +152,7 @@ pub fn setups_of(
 
 /// Where a handler starts.
 #[tactic(auto, unfolding(crate::specs::Setup::handler_address))]
-fn handler_address(ram: &Ram, symbols: &[Symbol], operand: &Operand) -> Result<u32, BootFault>
+pub fn handler_address(ram: &Ram, symbols: &[Symbol], operand: &Operand) -> Result<u32, BootFault>
     ensures { result ≡ setup.handler_address (size_of ram.now) symbols.now operand.now }
 {
     let address = value_of(symbols, operand)?;
@@ -179,7 +179,7 @@ pub fn handlers_of(
     Ok(lines)
 }
 
-/// The line of a handler that starts at an address.
+/// The line of a handler that starts at an address, and finds the line in $a0.
 fn line_of(handler: &HandlerConfig, address: u32) -> LineSetup
     ensures { result ≡ setup.line_of handler.now address }
 {
@@ -188,7 +188,9 @@ fn line_of(handler: &HandlerConfig, address: u32) -> LineSetup
         handler: Handler {
             cpu: handler.processor,
             address,
+            argument: handler.line as u32,
         },
+        course: None,
     }
 }
 

@@ -14,7 +14,7 @@ use Rattle.brd_gdb.specs.Reading.{request_of}
 use Rattle.brd_gdb.specs.Receiving.{arrival, next}
 use Rattle.brd_gdb.specs.declared.receiver.Arrival.{Arrival}
 use Rattle.brd_gdb.specs.declared.receiver.Arrival.TheVariants.{Packet, TooLong, Damaged}
-use Rattle.brd_gdb.specs.declared.request.Monitor.TheVariants.{Goto, Threads, Mark, Back}
+use Rattle.brd_gdb.specs.declared.request.Monitor.TheVariants.{Goto, Threads, Mark, Back, MarkByName, GotoName}
 use Rattle.brd_gdb.specs.declared.request.Move.{Move}
 use Rattle.brd_gdb.specs.declared.request.Request.{Request}
 use Rattle.brd_gdb.specs.declared.request.ThreadKind.{ThreadKind}
@@ -30,7 +30,8 @@ use Rattle.brd_inputs.specs.declared.start.Start.{Start}
 use Rattle.brd_report.specs.Output.{AppendsFront, Writes, WritesFront}
 use Rattle.brd_running.specs.AsmCommand.{IsObjectFile}
 use Rattle.brd_running.specs.Debugging.{debugger_of}
-use Rattle.brd_stub.specs.Answers.{Becomes, MovesForward, Stops, may_move, showing, whose_of, with_threads}
+use Rattle.brd_stub.specs.Answers.{Becomes, MovesForward, Stops, gone_to_some, may_move, showing, whose_of, with_threads}
+use Rattle.brd_stub.specs.Marks.{mark_of}
 use Rattle.brd_stub.specs.Moving.{Ended, EndsBehind, GoesBack, GoesForward, GoesOn, StopsBehind}
 use Rattle.brd_stub.specs.Moving.{after_next, is_told_behind, moved_to, of_all, passes, shows, stand, stand_behind}
 use Rattle.brd_stub.specs.Moving.{stands_before, stands_behind, step_done, stepping}
@@ -48,7 +49,7 @@ use Rattle.brd_stub.specs.declared.session.Session.{Session}
 use Rattle.brd_stub.specs.declared.stepping.Stepped.{Stepped}
 use Rattle.brd_stub.specs.declared.threads.Whose.{Whose}
 use Rattle.brd_command.specs.GdbCommand.{EndsServing, GdbEnds, ServesCutShort, ServesFirst, StopsServing}
-use Rattle.brd_command.specs.GdbHeadline.{ByteLeads, HasShown, IsRead, Leads, LeadsOn, LeadsTo, ReadsHeadline}
+use Rattle.brd_command.specs.GdbHeadline.{ByteLeads, HasShown, IsRead, Leads, LeadsOn, LeadsTo, LeadsToSome, ReadsHeadline}
 use Rattle.brd_command.specs.GdbHeadline.{ShowsAnswers, ShowsFirstAnswers, ShowsUpToEnd, position_of}
 use Rattle.brd_command.specs.GdbHeadline.HasShown.{nothing_yet, one_more}
 use Rattle.brd_command.specs.Laws.{IsAssembled, StandsAt}
@@ -271,6 +272,15 @@ stay_led first d next is same = (stays first d next is same, ap (λ (x : Debugge
 same_debugger : (s next : Session) → next ≡ s → next.debugger ≡ s.debugger
 same_debugger s next same = ap (λ (x : Session). x.debugger) same
 
+-- to where a mark with a name stands, if there is one
+by_name : (first : DebuggerState) (s next : Session) (asked : Option ℕ) → IsOf first s.debugger
+    → next ≡ gone_to_some s asked
+    → IsOf first next.debugger × LeadsToSome first.events asked s.debugger.position next.debugger.position
+by_name first s next None is becomes = stay_led first s.debugger next.debugger is (same_debugger s next becomes)
+by_name first s next (Some asked) is becomes =
+    by_goto first s.debugger next.debugger asked (nat_le asked (length s.debugger.events)) refl is
+    (ap (λ (x : Session). x.debugger) becomes)
+
 becomes_led : (first : DebuggerState) (s : Session) (request : Request) (next : Session) → IsOf first s.debugger
     → Becomes s request next → IsOf first next.debugger × Leads first.events s request next.debugger.position
 becomes_led first s (Forward how) next is becomes = by_forward first s next how (may_move s how) refl is becomes
@@ -284,6 +294,10 @@ becomes_led first s (Monitor (Back mark)) next is becomes =
     let asked : ℕ = slice_index_or s.marks mark 0 in
     by_goto first s.debugger next.debugger asked (nat_le asked (length s.debugger.events)) refl is
     (ap (λ (x : Session). x.debugger) becomes)
+becomes_led first s (Monitor (GotoName name)) next is becomes =
+    by_name first s next (mark_of s.named name) is becomes
+becomes_led first s (Monitor (MarkByName name)) next is becomes =
+    stay_led first s.debugger next.debugger is (ap (λ (x : Session). x.debugger) becomes)
 becomes_led first s (Monitor (Threads kind)) next is becomes =
     stay_led first s.debugger next.debugger is
     (ap (λ (x : Session). x.debugger) becomes ∙ threads_stay s kind)

@@ -1,6 +1,6 @@
 -- The headline of `gdb`: what GDB reads of a source, a configuration and a journal.
 use Rattle.std.specs.Prelude.{◌≡◌, ◌⊎◌, ℕ, ◌<◌, ◌≤◌, true, false, List, [], ◌∷◌, ◌++◌, length, take, slice_index_or}
-use Rattle.std.specs.Prelude.{Option, Some, Result, Ok, Err}
+use Rattle.std.specs.Prelude.{Option, Some, None, Result, Ok, Err}
 use Rattle.std.specs.Io.KnownBytes.{Keeps}
 use Rattle.brd_board.specs.Board.{BoardState}
 use Rattle.brd_board.specs.declared.event.Event.{Event}
@@ -9,7 +9,7 @@ use Rattle.brd_gdb.specs.Reading.{request_of}
 use Rattle.brd_gdb.specs.Receiving.{arrival, next}
 use Rattle.brd_gdb.specs.declared.receiver.Arrival.{Arrival}
 use Rattle.brd_gdb.specs.declared.receiver.Arrival.TheVariants.{Packet}
-use Rattle.brd_gdb.specs.declared.request.Monitor.TheVariants.{Goto, Back}
+use Rattle.brd_gdb.specs.declared.request.Monitor.TheVariants.{Goto, Back, GotoName}
 use Rattle.brd_gdb.specs.declared.request.Request.{Request}
 use Rattle.brd_gdb.specs.declared.request.Request.TheVariants.{Forward, BackwardContinue, BackwardStep, Monitor}
 use Rattle.brd_gdb.specs.declared.request.Request.TheVariants.{ReadRegisters, ReadRegister, ReadMemory}
@@ -19,6 +19,7 @@ use Rattle.brd_inputs.specs.declared.fault.CommandFault.{CommandFault}
 use Rattle.brd_inputs.specs.declared.start.Start.{Start}
 use Rattle.brd_report.specs.Output.{Writes, WritesFront}
 use Rattle.brd_stub.specs.Answers.{Reads}
+use Rattle.brd_stub.specs.Marks.{mark_of}
 use Rattle.brd_stub.specs.declared.session.Session.{Session}
 use Rattle.brd_command.specs.Laws.{StandsAt}
 use Rattle.brd_command.specs.Serving.{IsReady, Serves, accepted}
@@ -32,15 +33,21 @@ position_of s = s.session.debugger.position
 abbrev pub LeadsTo : List Event → ℕ → ℕ → ℕ → Type 0
 LeadsTo events asked from to = (to ≡ asked) ⊎ ((length events < asked) × (to ≡ from))
 
+-- the same, where what was asked for may not be there
+abbrev pub LeadsToSome : List Event → Option ℕ → ℕ → ℕ → Type 0
+LeadsToSome events None from to = to ≡ from
+LeadsToSome events (Some asked) from to = LeadsTo events asked from to
+
 -- Where a request leads a session from its position of these events. A move forward leads to no earlier one, and a move
--- backward to no later one; `monitor goto` leads to the position that it names, and `monitor back` to that of the mark.
--- All else stays.
+-- backward to no later one; `monitor goto` leads to the position that it names, or that of the mark with the name, and
+-- `monitor back` to that of the mark. All else stays.
 abbrev pub Leads : List Event → Session → Request → ℕ → Type 0
 Leads events s (Forward how) to = s.debugger.position ≤ to
 Leads events s BackwardContinue to = to ≤ s.debugger.position
 Leads events s BackwardStep to = to ≤ s.debugger.position
 Leads events s (Monitor (Goto asked)) to = LeadsTo events asked s.debugger.position to
 Leads events s (Monitor (Back mark)) to = LeadsTo events (slice_index_or s.marks mark 0) s.debugger.position to
+Leads events s (Monitor (GotoName name)) to = LeadsToSome events (mark_of s.named name) s.debugger.position to
 Leads events s other to = to ≡ s.debugger.position
 
 -- A byte leads nowhere but where it ends a packet, which leads where its request does.

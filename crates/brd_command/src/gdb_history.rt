@@ -40,7 +40,7 @@ pub struct History {
     journal: Journal,
     image: Image,
     /// The processor that handles each interrupt line, 0 where none does.
-    lines: [u8; 32],
+    lines: [u8; 160],
 }
 
 /// Written out, so that a function that lets one go is proved with a call, and not with the end of each part.

@@ -96,15 +96,40 @@ pub fn trace_files<F: Files, W: Write, P: Progress>(
 }
 
 /// The processor that handles each interrupt line of a configuration, 0 where none does.
-pub(crate) fn lines_of(config: &Config) -> [u8; 32] {
-    let mut lines = [0; 32];
-    for handler in config.handlers.as_slice() {
-        let line = handler.line as usize;
-        if line < lines.len() {
-            lines[line] = handler.processor;
-        }
-    }
+pub(crate) fn lines_of(config: &Config) -> [u8; 160] {
+    let mut lines = [0; 160];
+    put_lines(config, &mut lines);
+    put_cyclics(config, &mut lines);
+    put_alarms(config, &mut lines);
     lines
+}
+
+/// Puts the processor of each handler of a line that is raised from outside.
+fn put_lines(config: &Config, lines: &mut [u8; 160]) {
+    for handler in config.handlers.as_slice() {
+        put_processor(handler.line as usize, handler.processor, lines);
+    }
+}
+
+/// Puts the processor of each cyclic handler.
+fn put_cyclics(config: &Config, lines: &mut [u8; 160]) {
+    for cyclic in config.cyclics.as_slice() {
+        put_processor(30 + 2 * cyclic.id as usize, cyclic.processor, lines);
+    }
+}
+
+/// Puts the processor of each alarm handler.
+fn put_alarms(config: &Config, lines: &mut [u8; 160]) {
+    for alarm in config.alarms.as_slice() {
+        put_processor(31 + 2 * alarm.id as usize, alarm.processor, lines);
+    }
+}
+
+/// Puts the processor of a line.
+fn put_processor(line: usize, processor: u8, lines: &mut [u8; 160]) {
+    if line < lines.len() {
+        lines[line] = processor;
+    }
 }
 
 /// Which events are shown, and in which form.

@@ -26,9 +26,11 @@ use Rattle.brd_config.specs.declared.objects.SpinLockConfig.{SpinLockConfig}
 use Rattle.brd_config.specs.declared.objects.MutexConfig.{MutexConfig}
 use Rattle.brd_config.specs.declared.objects.PoolConfig.{PoolConfig}
 use Rattle.brd_config.specs.declared.objects.MailboxConfig.{MailboxConfig}
+use Rattle.brd_config.specs.declared.objects.CyclicConfig.{CyclicConfig}
+use Rattle.brd_config.specs.declared.objects.AlarmConfig.{AlarmConfig}
 use Rattle.brd_config.specs.declared.objects.HandlerConfig.{HandlerConfig}
 use Rattle.brd_config.specs.declared.statement.Statement.{Statement}
-use Rattle.brd_config.specs.declared.statement.Statement.TheVariants.{Board, Class, ClassEnd, Task, Semaphore, Flag, Queue, SpinLock, Mutex, Pool, Mailbox, Handler}
+use Rattle.brd_config.specs.declared.statement.Statement.TheVariants.{Board, Class, ClassEnd, Task, Semaphore, Flag, Queue, SpinLock, Mutex, Pool, Mailbox, Cyclic, Alarm, Handler}
 use Rattle.brd_config.specs.declared.statement.TaskStatement.{TaskStatement}
 use Rattle.brd_config.specs.declared.statement.SemaphoreStatement.{SemaphoreStatement}
 use Rattle.brd_config.specs.declared.statement.FlagStatement.{FlagStatement}
@@ -37,14 +39,16 @@ use Rattle.brd_config.specs.declared.statement.SpinLockStatement.{SpinLockStatem
 use Rattle.brd_config.specs.declared.statement.MutexStatement.{MutexStatement}
 use Rattle.brd_config.specs.declared.statement.PoolStatement.{PoolStatement}
 use Rattle.brd_config.specs.declared.statement.MailboxStatement.{MailboxStatement}
+use Rattle.brd_config.specs.declared.statement.CyclicStatement.{CyclicStatement}
+use Rattle.brd_config.specs.declared.statement.AlarmStatement.{AlarmStatement}
 use Rattle.brd_config.specs.declared.statement.HandlerStatement.{HandlerStatement}
-use Rattle.brd_config.specs.Configuration.{Configuration, IsWithin, IsTask, IsSemaphore, IsFlag, IsQueue, IsSpinLock, IsMutex, least_ceiling, IsPool, IsMailbox, IsHandler, IsConfiguration}
+use Rattle.brd_config.specs.Configuration.{Configuration, IsWithin, IsTask, IsSemaphore, IsFlag, IsQueue, IsSpinLock, IsMutex, least_ceiling, IsPool, IsMailbox, IsCyclic, IsAlarm, most_ticks, IsHandler, IsConfiguration}
 use Rattle.brd_config.specs.Statements.{statement_at}
-use Rattle.brd_config.specs.Meaning.{State, within, only_bits, task_numbers, task_of, semaphore_of, flag_of, queue_of, spin_lock_of, mutex_of, meant_protocol, pool_of, mailbox_of, handler_of, added, processor_of, is_end, one_more, statement_step, statements_from, board_of, first_board, first_statement, has_profile, opened, config_from, config_of}
+use Rattle.brd_config.specs.Meaning.{State, within, only_bits, task_numbers, task_of, semaphore_of, flag_of, queue_of, spin_lock_of, mutex_of, meant_protocol, pool_of, mailbox_of, cyclic_of, alarm_of, handler_of, added, processor_of, is_end, one_more, statement_step, statements_from, board_of, first_board, first_statement, has_profile, opened, config_from, config_of}
 use Rattle.brd_config.proofs.RamSize.{ram_again}
 use Rattle.brd_config.specs.Grammar.Piece.{Exactly, Sign, Numeral, Attributes, Value, StackValue, Area, ClassName, Protocol}
-use Rattle.brd_config.specs.Grammar.{Piece, IsSpelled, AreSpelled, form, profile_form, IsText, tasks_of, semaphores_of, flags_of, queues_of, spin_locks_of, mutexes_of, pools_of, mailboxes_of, handlers_of, task_said, semaphore_said, flag_said, queue_said, spin_lock_said, mutex_said, pool_said, mailbox_said, handler_said, said, AreNested, AreValid, Says}
-use Rattle.brd_config.proofs.Forms.{Ahead, MayStand, exactly_step, first_sign, object_pieces, bare_object_pieces, mutex_pieces, mailbox_pieces, board_again, statement_again}
+use Rattle.brd_config.specs.Grammar.{Piece, IsSpelled, AreSpelled, form, profile_form, IsText, tasks_of, semaphores_of, flags_of, queues_of, spin_locks_of, mutexes_of, pools_of, mailboxes_of, cyclics_of, alarms_of, handlers_of, task_said, semaphore_said, flag_said, queue_said, spin_lock_said, mutex_said, pool_said, mailbox_said, cyclic_said, alarm_said, handler_said, said, AreNested, AreValid, Says}
+use Rattle.brd_config.proofs.Forms.{Ahead, MayStand, exactly_step, first_sign, object_pieces, bare_object_pieces, mutex_pieces, mailbox_pieces, cyclic_pieces, board_again, statement_again}
 
 -- ---- lists
 
@@ -151,6 +155,28 @@ mailbox_again line mailboxes ys t v apart =
       within_again 1 16 (BadPriority line) t.priorities v.priorities,
     ) refl
 
+cyclic_again : (line : ℕ) (cyclics ys : List CyclicConfig) (processors processor : ℕ) (t : CyclicStatement)
+    → IsCyclic processors (cyclic_said processor t) → AllPairs (λ s t. s.id ≢ t.id) (cyclics ++ cyclic_said processor t ∷ ys) → cyclic_of line cyclics processor t ≡ Ok (cyclic_said processor t)
+unfolding cyclic_of
+cyclic_again line cyclics ys processors processor t v apart =
+    rw (
+      within_again 1 64 (BadId line) t.id v.id,
+      new_key (λ o. o.id) cyclics (cyclic_said processor t) ys apart,
+      only_bits_again 3 (BadAttribute line) t.attributes (omega (arith, v.attributes)),
+      within_again 1 most_ticks (BadCount line) t.period v.period,
+      within_again 0 most_ticks (BadCount line) t.phase (from_zero most_ticks t.phase v.phase),
+    ) refl
+
+alarm_again : (line : ℕ) (alarms ys : List AlarmConfig) (processors processor : ℕ) (t : AlarmStatement)
+    → t.attributes ≤ 1 → IsAlarm processors (alarm_said processor t) → AllPairs (λ s t. s.id ≢ t.id) (alarms ++ alarm_said processor t ∷ ys) → alarm_of line alarms processor t ≡ Ok (alarm_said processor t)
+unfolding alarm_of
+alarm_again line alarms ys processors processor t bits v apart =
+    rw (
+      within_again 1 64 (BadId line) t.id v.id,
+      new_key (λ o. o.id) alarms (alarm_said processor t) ys apart,
+      only_bits_again 1 (BadAttribute line) t.attributes (omega (arith, bits)),
+    ) refl
+
 handler_again : (line : ℕ) (handlers ys : List HandlerConfig) (processors processor : ℕ) (t : HandlerStatement)
     → t.attributes ≤ 1 → IsHandler processors (handler_said processor t) → AllPairs (λ s t. s.line ≢ t.line) (handlers ++ handler_said processor t ∷ ys) → handler_of line handlers processor t ≡ Ok (handler_said processor t)
 unfolding handler_of
@@ -172,6 +198,8 @@ pub record Leads (whole c : Configuration) (class : Option ℕ) (ss : List State
   pub mutexes : whole.mutexes ≡ c.mutexes ++ mutexes_of ss
   pub pools : whole.pools ≡ c.pools ++ pools_of ss
   pub mailboxes : whole.mailboxes ≡ c.mailboxes ++ mailboxes_of ss
+  pub cyclics : whole.cyclics ≡ c.cyclics ++ cyclics_of class ss
+  pub alarms : whole.alarms ≡ c.alarms ++ alarms_of class ss
   pub handlers : whole.handlers ≡ c.handlers ++ handlers_of class ss
 
 regroup : {X : Type 0} (xs : List X) (x : X) (ys : List X) → xs ++ x ∷ ys ≡ (xs ++ x ∷ []) ++ ys
@@ -190,13 +218,13 @@ goes_on line whole c class (Board processors ram) ss valid l nested = absurd nes
 goes_on line whole c class (Class n) ss valid l nested = record {
   state = record { config = c; class = Some n };
   accepted = rw (within_again 1 c.processors (BadProcessor line) n nested.1) refl;
-  leads = record { standard = l.standard; processors = l.processors; ram = l.ram; tasks = l.tasks; semaphores = l.semaphores; flags = l.flags; queues = l.queues; spin_locks = l.spin_locks; mutexes = l.mutexes; pools = l.pools; mailboxes = l.mailboxes; handlers = l.handlers };
+  leads = record { standard = l.standard; processors = l.processors; ram = l.ram; tasks = l.tasks; semaphores = l.semaphores; flags = l.flags; queues = l.queues; spin_locks = l.spin_locks; mutexes = l.mutexes; pools = l.pools; mailboxes = l.mailboxes; cyclics = l.cyclics; alarms = l.alarms; handlers = l.handlers };
   nested = nested.2;
 }
 goes_on line whole c class ClassEnd ss valid l nested = record {
   state = record { config = c; class = None };
   accepted = refl;
-  leads = record { standard = l.standard; processors = l.processors; ram = l.ram; tasks = l.tasks; semaphores = l.semaphores; flags = l.flags; queues = l.queues; spin_locks = l.spin_locks; mutexes = l.mutexes; pools = l.pools; mailboxes = l.mailboxes; handlers = l.handlers };
+  leads = record { standard = l.standard; processors = l.processors; ram = l.ram; tasks = l.tasks; semaphores = l.semaphores; flags = l.flags; queues = l.queues; spin_locks = l.spin_locks; mutexes = l.mutexes; pools = l.pools; mailboxes = l.mailboxes; cyclics = l.cyclics; alarms = l.alarms; handlers = l.handlers };
   nested = nested.1;
 }
 goes_on line whole c class (Task x) ss valid l nested =
@@ -205,7 +233,7 @@ goes_on line whole c class (Task x) ss valid l nested =
     record {
       state = record { config = record c { tasks = c.tasks ++ (task_said (processor_of class) x) ∷ [] }; class = class };
       accepted = rw (task_again line c.tasks (tasks_of class ss) whole.processors (processor_of class) x one apart) refl;
-      leads = record { standard = l.standard; processors = l.processors; ram = l.ram; tasks = l.tasks ∙ regroup c.tasks (task_said (processor_of class) x) (tasks_of class ss); semaphores = l.semaphores; flags = l.flags; queues = l.queues; spin_locks = l.spin_locks; mutexes = l.mutexes; pools = l.pools; mailboxes = l.mailboxes; handlers = l.handlers };
+      leads = record { standard = l.standard; processors = l.processors; ram = l.ram; tasks = l.tasks ∙ regroup c.tasks (task_said (processor_of class) x) (tasks_of class ss); semaphores = l.semaphores; flags = l.flags; queues = l.queues; spin_locks = l.spin_locks; mutexes = l.mutexes; pools = l.pools; mailboxes = l.mailboxes; cyclics = l.cyclics; alarms = l.alarms; handlers = l.handlers };
       nested = nested;
     }
 goes_on line whole c class (Semaphore x) ss valid l nested =
@@ -214,7 +242,7 @@ goes_on line whole c class (Semaphore x) ss valid l nested =
     record {
       state = record { config = record c { semaphores = c.semaphores ++ (semaphore_said x) ∷ [] }; class = class };
       accepted = rw (semaphore_again line c.semaphores (semaphores_of ss) x one apart) refl;
-      leads = record { standard = l.standard; processors = l.processors; ram = l.ram; tasks = l.tasks; semaphores = l.semaphores ∙ regroup c.semaphores (semaphore_said x) (semaphores_of ss); flags = l.flags; queues = l.queues; spin_locks = l.spin_locks; mutexes = l.mutexes; pools = l.pools; mailboxes = l.mailboxes; handlers = l.handlers };
+      leads = record { standard = l.standard; processors = l.processors; ram = l.ram; tasks = l.tasks; semaphores = l.semaphores ∙ regroup c.semaphores (semaphore_said x) (semaphores_of ss); flags = l.flags; queues = l.queues; spin_locks = l.spin_locks; mutexes = l.mutexes; pools = l.pools; mailboxes = l.mailboxes; cyclics = l.cyclics; alarms = l.alarms; handlers = l.handlers };
       nested = nested;
     }
 goes_on line whole c class (Flag x) ss valid l nested =
@@ -223,7 +251,7 @@ goes_on line whole c class (Flag x) ss valid l nested =
     record {
       state = record { config = record c { flags = c.flags ++ (flag_said x) ∷ [] }; class = class };
       accepted = rw (flag_again line c.flags (flags_of ss) x one apart) refl;
-      leads = record { standard = l.standard; processors = l.processors; ram = l.ram; tasks = l.tasks; semaphores = l.semaphores; flags = l.flags ∙ regroup c.flags (flag_said x) (flags_of ss); queues = l.queues; spin_locks = l.spin_locks; mutexes = l.mutexes; pools = l.pools; mailboxes = l.mailboxes; handlers = l.handlers };
+      leads = record { standard = l.standard; processors = l.processors; ram = l.ram; tasks = l.tasks; semaphores = l.semaphores; flags = l.flags ∙ regroup c.flags (flag_said x) (flags_of ss); queues = l.queues; spin_locks = l.spin_locks; mutexes = l.mutexes; pools = l.pools; mailboxes = l.mailboxes; cyclics = l.cyclics; alarms = l.alarms; handlers = l.handlers };
       nested = nested;
     }
 goes_on line whole c class (Queue x) ss valid l nested =
@@ -232,7 +260,7 @@ goes_on line whole c class (Queue x) ss valid l nested =
     record {
       state = record { config = record c { queues = c.queues ++ (queue_said x) ∷ [] }; class = class };
       accepted = rw (queue_again line c.queues (queues_of ss) x one apart) refl;
-      leads = record { standard = l.standard; processors = l.processors; ram = l.ram; tasks = l.tasks; semaphores = l.semaphores; flags = l.flags; queues = l.queues ∙ regroup c.queues (queue_said x) (queues_of ss); spin_locks = l.spin_locks; mutexes = l.mutexes; pools = l.pools; mailboxes = l.mailboxes; handlers = l.handlers };
+      leads = record { standard = l.standard; processors = l.processors; ram = l.ram; tasks = l.tasks; semaphores = l.semaphores; flags = l.flags; queues = l.queues ∙ regroup c.queues (queue_said x) (queues_of ss); spin_locks = l.spin_locks; mutexes = l.mutexes; pools = l.pools; mailboxes = l.mailboxes; cyclics = l.cyclics; alarms = l.alarms; handlers = l.handlers };
       nested = nested;
     }
 goes_on line whole c class (SpinLock x) ss valid l nested =
@@ -241,7 +269,7 @@ goes_on line whole c class (SpinLock x) ss valid l nested =
     record {
       state = record { config = record c { spin_locks = c.spin_locks ++ (spin_lock_said x) ∷ [] }; class = class };
       accepted = rw (spin_lock_again line c.spin_locks (spin_locks_of ss) x nested.0 one apart) refl;
-      leads = record { standard = l.standard; processors = l.processors; ram = l.ram; tasks = l.tasks; semaphores = l.semaphores; flags = l.flags; queues = l.queues; spin_locks = l.spin_locks ∙ regroup c.spin_locks (spin_lock_said x) (spin_locks_of ss); mutexes = l.mutexes; pools = l.pools; mailboxes = l.mailboxes; handlers = l.handlers };
+      leads = record { standard = l.standard; processors = l.processors; ram = l.ram; tasks = l.tasks; semaphores = l.semaphores; flags = l.flags; queues = l.queues; spin_locks = l.spin_locks ∙ regroup c.spin_locks (spin_lock_said x) (spin_locks_of ss); mutexes = l.mutexes; pools = l.pools; mailboxes = l.mailboxes; cyclics = l.cyclics; alarms = l.alarms; handlers = l.handlers };
       nested = nested.1;
     }
 goes_on line whole c class (Mutex x) ss valid l nested =
@@ -250,7 +278,7 @@ goes_on line whole c class (Mutex x) ss valid l nested =
     record {
       state = record { config = record c { mutexes = c.mutexes ++ (mutex_said x) ∷ [] }; class = class };
       accepted = rw (mutex_again line c.mutexes (mutexes_of ss) x nested.1 one apart) refl;
-      leads = record { standard = l.standard; processors = l.processors; ram = l.ram; tasks = l.tasks; semaphores = l.semaphores; flags = l.flags; queues = l.queues; spin_locks = l.spin_locks; mutexes = l.mutexes ∙ regroup c.mutexes (mutex_said x) (mutexes_of ss); pools = l.pools; mailboxes = l.mailboxes; handlers = l.handlers };
+      leads = record { standard = l.standard; processors = l.processors; ram = l.ram; tasks = l.tasks; semaphores = l.semaphores; flags = l.flags; queues = l.queues; spin_locks = l.spin_locks; mutexes = l.mutexes ∙ regroup c.mutexes (mutex_said x) (mutexes_of ss); pools = l.pools; mailboxes = l.mailboxes; cyclics = l.cyclics; alarms = l.alarms; handlers = l.handlers };
       nested = nested.2;
     }
 goes_on line whole c class (Pool x) ss valid l nested =
@@ -259,7 +287,7 @@ goes_on line whole c class (Pool x) ss valid l nested =
     record {
       state = record { config = record c { pools = c.pools ++ (pool_said x) ∷ [] }; class = class };
       accepted = rw (pool_again line c.ram c.pools (pools_of ss) x (subst (λ (ram : ℕ). IsPool ram (pool_said x)) l.ram one) apart) refl;
-      leads = record { standard = l.standard; processors = l.processors; ram = l.ram; tasks = l.tasks; semaphores = l.semaphores; flags = l.flags; queues = l.queues; spin_locks = l.spin_locks; mutexes = l.mutexes; pools = l.pools ∙ regroup c.pools (pool_said x) (pools_of ss); mailboxes = l.mailboxes; handlers = l.handlers };
+      leads = record { standard = l.standard; processors = l.processors; ram = l.ram; tasks = l.tasks; semaphores = l.semaphores; flags = l.flags; queues = l.queues; spin_locks = l.spin_locks; mutexes = l.mutexes; pools = l.pools ∙ regroup c.pools (pool_said x) (pools_of ss); mailboxes = l.mailboxes; cyclics = l.cyclics; alarms = l.alarms; handlers = l.handlers };
       nested = nested.1;
     }
 goes_on line whole c class (Mailbox x) ss valid l nested =
@@ -268,8 +296,26 @@ goes_on line whole c class (Mailbox x) ss valid l nested =
     record {
       state = record { config = record c { mailboxes = c.mailboxes ++ (mailbox_said x) ∷ [] }; class = class };
       accepted = rw (mailbox_again line c.mailboxes (mailboxes_of ss) x one apart) refl;
-      leads = record { standard = l.standard; processors = l.processors; ram = l.ram; tasks = l.tasks; semaphores = l.semaphores; flags = l.flags; queues = l.queues; spin_locks = l.spin_locks; mutexes = l.mutexes; pools = l.pools; mailboxes = l.mailboxes ∙ regroup c.mailboxes (mailbox_said x) (mailboxes_of ss); handlers = l.handlers };
+      leads = record { standard = l.standard; processors = l.processors; ram = l.ram; tasks = l.tasks; semaphores = l.semaphores; flags = l.flags; queues = l.queues; spin_locks = l.spin_locks; mutexes = l.mutexes; pools = l.pools; mailboxes = l.mailboxes ∙ regroup c.mailboxes (mailbox_said x) (mailboxes_of ss); cyclics = l.cyclics; alarms = l.alarms; handlers = l.handlers };
       nested = nested.1;
+    }
+goes_on line whole c class (Cyclic x) ss valid l nested =
+    let one = middle (IsCyclic whole.processors) c.cyclics (cyclic_said (processor_of class) x) (cyclics_of class ss) (subst (All (IsCyclic whole.processors)) l.cyclics valid.cyclics) in
+    let apart = subst (AllPairs (λ s t. s.id ≢ t.id)) l.cyclics valid.cyclic_ids in
+    record {
+      state = record { config = record c { cyclics = c.cyclics ++ (cyclic_said (processor_of class) x) ∷ [] }; class = class };
+      accepted = rw (cyclic_again line c.cyclics (cyclics_of class ss) whole.processors (processor_of class) x one apart) refl;
+      leads = record { standard = l.standard; processors = l.processors; ram = l.ram; tasks = l.tasks; semaphores = l.semaphores; flags = l.flags; queues = l.queues; spin_locks = l.spin_locks; mutexes = l.mutexes; pools = l.pools; mailboxes = l.mailboxes; cyclics = l.cyclics ∙ regroup c.cyclics (cyclic_said (processor_of class) x) (cyclics_of class ss); alarms = l.alarms; handlers = l.handlers };
+      nested = nested.1;
+    }
+goes_on line whole c class (Alarm x) ss valid l nested =
+    let one = middle (IsAlarm whole.processors) c.alarms (alarm_said (processor_of class) x) (alarms_of class ss) (subst (All (IsAlarm whole.processors)) l.alarms valid.alarms) in
+    let apart = subst (AllPairs (λ s t. s.id ≢ t.id)) l.alarms valid.alarm_ids in
+    record {
+      state = record { config = record c { alarms = c.alarms ++ (alarm_said (processor_of class) x) ∷ [] }; class = class };
+      accepted = rw (alarm_again line c.alarms (alarms_of class ss) whole.processors (processor_of class) x nested.1 one apart) refl;
+      leads = record { standard = l.standard; processors = l.processors; ram = l.ram; tasks = l.tasks; semaphores = l.semaphores; flags = l.flags; queues = l.queues; spin_locks = l.spin_locks; mutexes = l.mutexes; pools = l.pools; mailboxes = l.mailboxes; cyclics = l.cyclics; alarms = l.alarms ∙ regroup c.alarms (alarm_said (processor_of class) x) (alarms_of class ss); handlers = l.handlers };
+      nested = nested.2;
     }
 goes_on line whole c class (Handler x) ss valid l nested =
     let one = middle (IsHandler whole.processors) c.handlers (handler_said (processor_of class) x) (handlers_of class ss) (subst (All (IsHandler whole.processors)) l.handlers valid.handlers) in
@@ -277,7 +323,7 @@ goes_on line whole c class (Handler x) ss valid l nested =
     record {
       state = record { config = record c { handlers = c.handlers ++ (handler_said (processor_of class) x) ∷ [] }; class = class };
       accepted = rw (handler_again line c.handlers (handlers_of class ss) whole.processors (processor_of class) x nested.0 one apart) refl;
-      leads = record { standard = l.standard; processors = l.processors; ram = l.ram; tasks = l.tasks; semaphores = l.semaphores; flags = l.flags; queues = l.queues; spin_locks = l.spin_locks; mutexes = l.mutexes; pools = l.pools; mailboxes = l.mailboxes; handlers = l.handlers ∙ regroup c.handlers (handler_said (processor_of class) x) (handlers_of class ss) };
+      leads = record { standard = l.standard; processors = l.processors; ram = l.ram; tasks = l.tasks; semaphores = l.semaphores; flags = l.flags; queues = l.queues; spin_locks = l.spin_locks; mutexes = l.mutexes; pools = l.pools; mailboxes = l.mailboxes; cyclics = l.cyclics; alarms = l.alarms; handlers = l.handlers ∙ regroup c.handlers (handler_said (processor_of class) x) (handlers_of class ss) };
       nested = nested.1;
     }
 
@@ -297,6 +343,8 @@ may_stand standard processors class (SpinLock x) ss nested = tt
 may_stand standard processors class (Mutex x) ss nested = nested.0
 may_stand standard processors class (Pool x) ss nested = nested.0
 may_stand standard processors class (Mailbox x) ss nested = nested.0
+may_stand standard processors class (Cyclic x) ss nested = nested.0
+may_stand standard processors class (Alarm x) ss nested = nested.0
 may_stand standard processors class (Handler x) ss nested = tt
 
 -- a text of no tokens
@@ -342,18 +390,20 @@ begins_statement (SpinLock x) ps t s = not_at_end (Exactly (codes "CRE_SPN")) (b
 begins_statement (Mutex x) ps t s = not_at_end (Exactly (codes "CRE_MTX")) (mutex_pieces x.id x.protocol x.ceiling ps) t tt s
 begins_statement (Pool x) ps t s = not_at_end (Exactly (codes "CRE_MPF")) (object_pieces x.id x.attributes (Numeral x.count ∷ Sign 44 ∷ Numeral x.size ∷ Sign 44 ∷ StackValue x.area ∷ []) ps) t tt s
 begins_statement (Mailbox x) ps t s = not_at_end (Exactly (codes "CRE_MBX")) (mailbox_pieces x.id x.attributes x.priorities ps) t tt s
+begins_statement (Cyclic x) ps t s = not_at_end (Exactly (codes "CRE_CYC")) (cyclic_pieces x.id x.attributes x.exinf x.address x.period x.phase ps) t tt s
+begins_statement (Alarm x) ps t s = not_at_end (Exactly (codes "CRE_ALM")) (object_pieces x.id x.attributes (Value x.exinf ∷ Sign 44 ∷ Value x.address ∷ []) ps) t tt s
 begins_statement (Handler x) ps t s = not_at_end (Exactly (codes "DEF_INH")) (object_pieces x.line x.attributes (Value x.address ∷ []) ps) t tt s
 
 and_false : (b : Bool) → (b && false) ≡ false
 and_false true = refl
 and_false false = refl
 
-abbrev entry : Bool → ℕ → ℕ → List TaskConfig → List SemaphoreConfig → List FlagConfig → List QueueConfig → List SpinLockConfig → List MutexConfig → List PoolConfig → List MailboxConfig → List HandlerConfig → Configuration
-entry b p r ts ss fs qs ls xs bs ms hs = record { standard = b; processors = p; ram = r; tasks = ts; semaphores = ss; flags = fs; queues = qs; spin_locks = ls; mutexes = xs; pools = bs; mailboxes = ms; handlers = hs }
+abbrev entry : Bool → ℕ → ℕ → List TaskConfig → List SemaphoreConfig → List FlagConfig → List QueueConfig → List SpinLockConfig → List MutexConfig → List PoolConfig → List MailboxConfig → List CyclicConfig → List AlarmConfig → List HandlerConfig → Configuration
+entry b p r ts ss fs qs ls xs bs ms ys ws hs = record { standard = b; processors = p; ram = r; tasks = ts; semaphores = ss; flags = fs; queues = qs; spin_locks = ls; mutexes = xs; pools = bs; mailboxes = ms; cyclics = ys; alarms = ws; handlers = hs }
 
-same : (a b : Bool) → a ≡ b → (p q : ℕ) → p ≡ q → (r s : ℕ) → r ≡ s → (ts us : List TaskConfig) → ts ≡ us → (ss vs : List SemaphoreConfig) → ss ≡ vs → (fs gs : List FlagConfig) → fs ≡ gs → (qs rs : List QueueConfig) → qs ≡ rs → (ls ms : List SpinLockConfig) → ls ≡ ms → (xs zs : List MutexConfig) → xs ≡ zs → (os ps : List PoolConfig) → os ≡ ps → (cs ds : List MailboxConfig) → cs ≡ ds → (hs ks : List HandlerConfig) → hs ≡ ks
-    → entry a p r ts ss fs qs ls xs os cs hs ≡ entry b q s us vs gs rs ms zs ps ds ks
-same a b e p q e0 r s e1 ts us e2 ss vs e3 fs gs e4 qs rs e5 ls ms e6 xs zs e8 os ps e9 cs ds e10 hs ks e7 = rw (e, e0, e1, e2, e3, e4, e5, e6, e8, e9, e10, e7) refl
+same : (a b : Bool) → a ≡ b → (p q : ℕ) → p ≡ q → (r s : ℕ) → r ≡ s → (ts us : List TaskConfig) → ts ≡ us → (ss vs : List SemaphoreConfig) → ss ≡ vs → (fs gs : List FlagConfig) → fs ≡ gs → (qs rs : List QueueConfig) → qs ≡ rs → (ls ms : List SpinLockConfig) → ls ≡ ms → (xs zs : List MutexConfig) → xs ≡ zs → (os ps : List PoolConfig) → os ≡ ps → (cs ds : List MailboxConfig) → cs ≡ ds → (ys ws : List CyclicConfig) → ys ≡ ws → (is js : List AlarmConfig) → is ≡ js → (hs ks : List HandlerConfig) → hs ≡ ks
+    → entry a p r ts ss fs qs ls xs os cs ys is hs ≡ entry b q s us vs gs rs ms zs ps ds ws js ks
+same a b e p q e0 r s e1 ts us e2 ss vs e3 fs gs e4 qs rs e5 ls ms e6 xs zs e8 os ps e9 cs ds e10 ys ws e11 is js e12 hs ks e7 = rw (e, e0, e1, e2, e3, e4, e5, e6, e8, e9, e10, e11, e12, e7) refl
 
 -- one turn over a statement
 step_again : (c : Configuration) (class : Option ℕ) (x : Statement) (next : State) (t u : Text) → is_end (first t).token ≡ false → statement_at c.standard (is_some class) t ≡ Ok (x, u) → added (first t).line (record { config = c; class = class }) x ≡ Ok next
@@ -376,8 +426,10 @@ all_said whole c class l =
     let mutexes = l.mutexes ∙ append-nil c.mutexes in
     let pools = l.pools ∙ append-nil c.pools in
     let mailboxes = l.mailboxes ∙ append-nil c.mailboxes in
+    let cyclics = l.cyclics ∙ append-nil c.cyclics in
+    let alarms = l.alarms ∙ append-nil c.alarms in
     let handlers = l.handlers ∙ append-nil c.handlers in
-    sym (same whole.standard c.standard l.standard whole.processors c.processors l.processors whole.ram c.ram l.ram whole.tasks c.tasks tasks whole.semaphores c.semaphores semaphores whole.flags c.flags flags whole.queues c.queues queues whole.spin_locks c.spin_locks spin_locks whole.mutexes c.mutexes mutexes whole.pools c.pools pools whole.mailboxes c.mailboxes mailboxes whole.handlers c.handlers handlers)
+    sym (same whole.standard c.standard l.standard whole.processors c.processors l.processors whole.ram c.ram l.ram whole.tasks c.tasks tasks whole.semaphores c.semaphores semaphores whole.flags c.flags flags whole.queues c.queues queues whole.spin_locks c.spin_locks spin_locks whole.mutexes c.mutexes mutexes whole.pools c.pools pools whole.mailboxes c.mailboxes mailboxes whole.cyclics c.cyclics cyclics whole.alarms c.alarms alarms whole.handlers c.handlers handlers)
 
 run_again : (whole c : Configuration) (class : Option ℕ) (ss : List Statement) (t : Text) → IsConfiguration whole → Leads whole c class ss → AreNested c.standard c.processors class ss → AreSpelled (flat_map form ss) (bare_tokens t)
     → repeated NoMemory statement_step (suc (length ss)) (record { config = c; class = class }, t) ≡ Ok whole
@@ -427,6 +479,8 @@ form_less (SpinLock x) qs tokens s = first_less (Exactly (codes "CRE_SPN")) (bar
 form_less (Mutex x) qs tokens s = first_less (Exactly (codes "CRE_MTX")) (mutex_pieces x.id x.protocol x.ceiling []) qs tokens tt s
 form_less (Pool x) qs tokens s = first_less (Exactly (codes "CRE_MPF")) (object_pieces x.id x.attributes (Numeral x.count ∷ Sign 44 ∷ Numeral x.size ∷ Sign 44 ∷ StackValue x.area ∷ []) []) qs tokens tt s
 form_less (Mailbox x) qs tokens s = first_less (Exactly (codes "CRE_MBX")) (mailbox_pieces x.id x.attributes x.priorities []) qs tokens tt s
+form_less (Cyclic x) qs tokens s = first_less (Exactly (codes "CRE_CYC")) (cyclic_pieces x.id x.attributes x.exinf x.address x.period x.phase []) qs tokens tt s
+form_less (Alarm x) qs tokens s = first_less (Exactly (codes "CRE_ALM")) (object_pieces x.id x.attributes (Value x.exinf ∷ Sign 44 ∷ Value x.address ∷ []) []) qs tokens tt s
 form_less (Handler x) qs tokens s = first_less (Exactly (codes "DEF_INH")) (object_pieces x.line x.attributes (Value x.address ∷ []) []) qs tokens tt s
 
 -- each statement has a token
@@ -440,7 +494,7 @@ enough (x ∷ ss) tokens s =
 
 -- a board alone
 abbrev pub started : Bool → ℕ → ℕ → Configuration
-started standard processors ram = record { standard = standard; processors = processors; ram = ram; tasks = []; semaphores = []; flags = []; queues = []; spin_locks = []; mutexes = []; pools = []; mailboxes = []; handlers = [] }
+started standard processors ram = record { standard = standard; processors = processors; ram = ram; tasks = []; semaphores = []; flags = []; queues = []; spin_locks = []; mutexes = []; pools = []; mailboxes = []; cyclics = []; alarms = []; handlers = [] }
 
 board_of_again : (standard : Bool) (line processors ram : ℕ) → IsWithin 1 8 processors → IsRamSize ram → board_of standard line processors ram ≡ Ok (started standard processors ram)
 unfolding board_of
@@ -481,7 +535,7 @@ from_board : (standard : Bool) (processors ram : ℕ) (ss : List Statement) (t :
 unfolding config_from statements_from
 from_board standard processors ram ss t s valid =
     let f = first_again standard processors ram (flat_map form ss) t valid.values.processors valid.values.ram s in
-    let leads : Leads (said standard processors ram ss) (started standard processors ram) None ss = record { standard = refl; processors = refl; ram = refl; tasks = refl; semaphores = refl; flags = refl; queues = refl; spin_locks = refl; mutexes = refl; pools = refl; mailboxes = refl; handlers = refl } in
+    let leads : Leads (said standard processors ram ss) (started standard processors ram) None ss = record { standard = refl; processors = refl; ram = refl; tasks = refl; semaphores = refl; flags = refl; queues = refl; spin_locks = refl; mutexes = refl; pools = refl; mailboxes = refl; cyclics = refl; alarms = refl; handlers = refl } in
     let run = run_again (said standard processors ram ss) (started standard processors ram) None ss f.0 valid.values leads valid.nested f.2 in
     let long : suc (length ss) ≤ suc (length f.0.tokens) = omega (arith, enough ss (bare_tokens f.0) f.2, length-map f.0.tokens (λ p. p.token)) in
     rw f.1 (more_turns NoMemory statement_step (suc (length ss)) (suc (length f.0.tokens)) (record { config = started standard processors ram; class = None }, f.0) (said standard processors ram ss) long run)

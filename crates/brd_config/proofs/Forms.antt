@@ -15,7 +15,7 @@ use Rattle.brd_config.specs.declared.objects.Stack.{Stack}
 use Rattle.brd_config.specs.declared.statement.AttributeNames.{AttributeNames}
 use Rattle.brd_config.specs.declared.statement.AttributeNames.TheVariants as named
 use Rattle.brd_config.specs.declared.statement.Statement.{Statement}
-use Rattle.brd_config.specs.declared.statement.Statement.TheVariants.{Board, Class, ClassEnd, Task, Semaphore, Flag, Queue, SpinLock, Mutex, Pool, Mailbox, Handler}
+use Rattle.brd_config.specs.declared.statement.Statement.TheVariants.{Board, Class, ClassEnd, Task, Semaphore, Flag, Queue, SpinLock, Mutex, Pool, Mailbox, Cyclic, Alarm, Handler}
 use Rattle.brd_config.specs.declared.statement.TaskStatement.{TaskStatement}
 use Rattle.brd_config.specs.declared.statement.SemaphoreStatement.{SemaphoreStatement}
 use Rattle.brd_config.specs.declared.statement.FlagStatement.{FlagStatement}
@@ -24,8 +24,10 @@ use Rattle.brd_config.specs.declared.statement.SpinLockStatement.{SpinLockStatem
 use Rattle.brd_config.specs.declared.statement.MutexStatement.{MutexStatement}
 use Rattle.brd_config.specs.declared.statement.PoolStatement.{PoolStatement}
 use Rattle.brd_config.specs.declared.statement.MailboxStatement.{MailboxStatement}
+use Rattle.brd_config.specs.declared.statement.CyclicStatement.{CyclicStatement}
+use Rattle.brd_config.specs.declared.statement.AlarmStatement.{AlarmStatement}
 use Rattle.brd_config.specs.declared.statement.HandlerStatement.{HandlerStatement}
-use Rattle.brd_config.specs.Statements.{keyword_of, board_at, class_at, task_tail_at, task_at, semaphore_at, flag_at, queue_at, spin_lock_at, mutex_at, pool_at, mailbox_at, handler_at, behind_keyword, statement_at}
+use Rattle.brd_config.specs.Statements.{keyword_of, board_at, class_at, task_tail_at, task_at, semaphore_at, flag_at, queue_at, spin_lock_at, mutex_at, pool_at, mailbox_at, cyclic_at, alarm_at, handler_at, behind_keyword, statement_at}
 use Rattle.brd_config.specs.Reading.{attribute_of, is_null, number_at, mark_at, attribute_at, joint_at, attribute_step, attributes_at, operand_at, stack_at, area_at, null_at, class_number_at, protocol_at, listed_number_at, listed_operand_at, head_at, tail_at}
 use Rattle.brd_config.specs.Grammar.{Piece, Joined, AreSpelled, form}
 use Rattle.brd_config.specs.Grammar.Piece.{Exactly, Sign, Numeral, Attributes, Value, StackValue, Area, ClassName, Protocol}
@@ -348,6 +350,43 @@ mailbox_again x ps t s =
     let l = tail_step ps t2 b.1 in
     (others (others (others t2)), rw (h.1, a.0, b.0, l.0) refl, l.1)
 
+-- ( id , { attributes , exinf , address , period , phase } ) ; and what follows
+abbrev pub cyclic_pieces : ℕ → ℕ → Operand → Operand → ℕ → ℕ → List Piece → List Piece
+cyclic_pieces id attributes exinf address period phase ps =
+    Sign 40 ∷ Numeral id ∷ Sign 44 ∷ Sign 123 ∷ Attributes named.Cyclic attributes ∷ Sign 44 ∷ Value exinf ∷ Sign 44 ∷ Value address ∷ Sign 44 ∷ Numeral period
+    ∷ Sign 44 ∷ Numeral phase ∷ Sign 125 ∷ Sign 41 ∷ Sign 59 ∷ ps
+
+cyclic_again : (x : CyclicStatement) (ps : List Piece) (t : Text) → Ahead (cyclic_pieces x.id x.attributes x.exinf x.address x.period x.phase ps) t → Reads (cyclic_at t) (Cyclic x) ps
+unfolding cyclic_at
+cyclic_again x ps t s =
+    let end = Sign 125 ∷ Sign 41 ∷ Sign 59 ∷ ps in
+    let rest = Numeral x.period ∷ Sign 44 ∷ Numeral x.phase ∷ end in
+    let h = head_step named.Cyclic 44 x.id x.attributes (Value x.exinf ∷ Sign 44 ∷ Value x.address ∷ Sign 44 ∷ rest) t refl s in
+    let t0 = h.0 in
+    let a = listed_operand_step x.exinf (Value x.address ∷ Sign 44 ∷ rest) t0 h.2 in
+    let t1 = others (others t0) in
+    let b = listed_operand_step x.address rest t1 a.1 in
+    let t2 = others (others t1) in
+    let c = listed_number_step x.period (Numeral x.phase ∷ end) t2 b.1 in
+    let t3 = others (others t2) in
+    let d = numeral_step x.phase end t3 c.1 in
+    let t4 = others t3 in
+    let l = tail_step ps t4 d.1 in
+    (others (others (others t4)), rw (h.1, a.0, b.0, c.0, d.0, l.0) refl, l.1)
+
+alarm_again : (x : AlarmStatement) (ps : List Piece) (t : Text) → Ahead (object_pieces x.id x.attributes (Value x.exinf ∷ Sign 44 ∷ Value x.address ∷ []) ps) t → Reads (alarm_at t) (Alarm x) ps
+unfolding alarm_at
+alarm_again x ps t s =
+    let end = Sign 125 ∷ Sign 41 ∷ Sign 59 ∷ ps in
+    let h = head_step named.Common 44 x.id x.attributes (Value x.exinf ∷ Sign 44 ∷ Value x.address ∷ end) t refl s in
+    let t0 = h.0 in
+    let a = listed_operand_step x.exinf (Value x.address ∷ end) t0 h.2 in
+    let t1 = others (others t0) in
+    let b = value_step x.address end t1 a.1 in
+    let t2 = others t1 in
+    let l = tail_step ps t2 b.1 in
+    (others (others (others t2)), rw (h.1, a.0, b.0, l.0) refl, l.1)
+
 handler_again : (x : HandlerStatement) (ps : List Piece) (t : Text) → Ahead (object_pieces x.line x.attributes (Value x.address ∷ []) ps) t → Reads (handler_at t) (Handler x) ps
 unfolding handler_at
 handler_again x ps t s =
@@ -359,8 +398,8 @@ handler_again x ps t s =
     let l = tail_step ps t1 a.1 in
     (others (others (others t1)), rw (h.1, a.0, l.0) refl, l.1)
 
--- Where a statement may stand: classes outside of classes, their ends inside; mutexes, memory pools and mailboxes in the
--- profile.
+-- Where a statement may stand: classes outside of classes, their ends inside; mutexes, memory pools, mailboxes, cyclic
+-- handlers and alarm handlers in the profile.
 abbrev pub MayStand : Bool → Bool → Statement → Type 0
 MayStand standard in_class (Board processors ram) = Unit {0}
 MayStand standard in_class (Class n) = in_class ≡ false
@@ -373,6 +412,8 @@ MayStand standard in_class (SpinLock x) = Unit {0}
 MayStand standard in_class (Mutex x) = standard ≡ true
 MayStand standard in_class (Pool x) = standard ≡ true
 MayStand standard in_class (Mailbox x) = standard ≡ true
+MayStand standard in_class (Cyclic x) = standard ≡ true
+MayStand standard in_class (Alarm x) = standard ≡ true
 MayStand standard in_class (Handler x) = Unit {0}
 
 pub statement_again : (standard in_class : Bool) (x : Statement) (ps : List Piece) (t : Text) → MayStand standard in_class x → Ahead (form x ++ ps) t → Reads (statement_at standard in_class t) x ps
@@ -419,6 +460,14 @@ statement_again standard in_class (Pool x) ps t may s =
 statement_again standard in_class (Mailbox x) ps t may s =
     let f = exactly_step (codes "CRE_MBX") (mailbox_pieces x.id x.attributes x.priorities ps) t s in
     let r = mailbox_again x ps (others t) f.1 in
+    (r.0, rw (f.0, may) r.1, r.2)
+statement_again standard in_class (Cyclic x) ps t may s =
+    let f = exactly_step (codes "CRE_CYC") (cyclic_pieces x.id x.attributes x.exinf x.address x.period x.phase ps) t s in
+    let r = cyclic_again x ps (others t) f.1 in
+    (r.0, rw (f.0, may) r.1, r.2)
+statement_again standard in_class (Alarm x) ps t may s =
+    let f = exactly_step (codes "CRE_ALM") (object_pieces x.id x.attributes (Value x.exinf ∷ Sign 44 ∷ Value x.address ∷ []) ps) t s in
+    let r = alarm_again x ps (others t) f.1 in
     (r.0, rw (f.0, may) r.1, r.2)
 statement_again standard in_class (Handler x) ps t may s =
     let f = exactly_step (codes "DEF_INH") (object_pieces x.line x.attributes (Value x.address ∷ []) ps) t s in

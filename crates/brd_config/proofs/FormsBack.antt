@@ -22,8 +22,8 @@ use Rattle.brd_config.specs.declared.statement.AttributeNames.TheVariants as nam
 use Rattle.brd_config.specs.declared.statement.Keyword.{Keyword}
 use Rattle.brd_config.specs.declared.statement.Keyword.TheVariants as keywords
 use Rattle.brd_config.specs.declared.statement.Statement.{Statement}
-use Rattle.brd_config.specs.declared.statement.Statement.TheVariants.{Board, Class, ClassEnd, Task, Semaphore, Flag, Queue, SpinLock, Mutex, Pool, Mailbox, Handler}
-use Rattle.brd_config.specs.Statements.{keyword_names, keyword_of, board_at, class_at, task_tail_at, task_at, semaphore_at, flag_at, queue_at, spin_lock_at, mutex_at, pool_at, mailbox_at, handler_at, behind_keyword, statement_by, statement_at}
+use Rattle.brd_config.specs.declared.statement.Statement.TheVariants.{Board, Class, ClassEnd, Task, Semaphore, Flag, Queue, SpinLock, Mutex, Pool, Mailbox, Cyclic, Alarm, Handler}
+use Rattle.brd_config.specs.Statements.{keyword_names, keyword_of, board_at, class_at, task_tail_at, task_at, semaphore_at, flag_at, queue_at, spin_lock_at, mutex_at, pool_at, mailbox_at, cyclic_at, alarm_at, handler_at, behind_keyword, statement_by, statement_at}
 use Rattle.brd_config.specs.Reading.{named_in, attribute_of, class_of, protocol_of, operand_of, stack_of, is_null, is_area, run_of, number_at, expect_mark, mark_at, attribute_at, expect_joint, joint_at, attribute_step, attributes_at, operand_at, stack_at, area_at, null_at, class_number_at, protocol_at, listed_number_at, listed_operand_at, head_at, tail_at}
 use Rattle.brd_config.specs.Grammar.{Piece, Joined, IsSpelled, AreSpelled, form}
 use Rattle.brd_config.specs.Grammar.Piece.{Exactly, Sign, Numeral, Attributes, Value, StackValue, Area, ClassName, Protocol}
@@ -303,6 +303,8 @@ keyword_name keywords.SpinLock = codes "CRE_SPN"
 keyword_name keywords.Mutex = codes "CRE_MTX"
 keyword_name keywords.Pool = codes "CRE_MPF"
 keyword_name keywords.Mailbox = codes "CRE_MBX"
+keyword_name keywords.Cyclic = codes "CRE_CYC"
+keyword_name keywords.Alarm = codes "CRE_ALM"
 keyword_name keywords.Handler = codes "DEF_INH"
 
 -- after its first token a statement has the rest of its form, and it may stand here
@@ -387,6 +389,25 @@ mailbox_back in_class t r e =
     subst (Behind (codes "CRE_MBX") true in_class t) (ok_is (Mailbox (record { id = head.0; attributes = head.1; priorities = priorities.0 }), ended) r e)
     (record { whole = λ s x. x then head_back named.Mailbox 44 t head h then listed_number_back head.2 priorities a then null_back priorities.1 null b then tail_back null ended l; may = refl })
 
+cyclic_back : (in_class : Bool) (t : Text) (r : Statement × Text) → cyclic_at t ≡ Ok r → Behind (codes "CRE_CYC") true in_class t r
+unfolding cyclic_at
+cyclic_back in_class t r e =
+    e gives λ head h e. e gives λ exinf a e. e gives λ address b e. e gives λ period c e. e gives λ phase d e. e gives λ ended l e.
+    subst (Behind (codes "CRE_CYC") true in_class t)
+    (ok_is (Cyclic (record { id = head.0; attributes = head.1; exinf = exinf.0; address = address.0; period = period.0; phase = phase.0 }), ended) r e)
+    (record {
+      whole = λ s x. x then head_back named.Cyclic 44 t head h then listed_operand_back head.2 exinf a then listed_operand_back exinf.1 address b
+          then listed_number_back address.1 period c then numeral_back period.1 phase d then tail_back phase.1 ended l;
+      may = refl;
+    })
+
+alarm_back : (in_class : Bool) (t : Text) (r : Statement × Text) → alarm_at t ≡ Ok r → Behind (codes "CRE_ALM") true in_class t r
+unfolding alarm_at
+alarm_back in_class t r e =
+    e gives λ head h e. e gives λ exinf a e. e gives λ address b e. e gives λ ended l e.
+    subst (Behind (codes "CRE_ALM") true in_class t) (ok_is (Alarm (record { id = head.0; attributes = head.1; exinf = exinf.0; address = address.0 }), ended) r e)
+    (record { whole = λ s x. x then head_back named.Common 44 t head h then listed_operand_back head.2 exinf a then value_back exinf.1 address b then tail_back address.1 ended l; may = refl })
+
 handler_back : (standard in_class : Bool) (t : Text) (r : Statement × Text) → handler_at t ≡ Ok r → Behind (codes "DEF_INH") standard in_class t r
 unfolding handler_at
 handler_back standard in_class t r e =
@@ -412,6 +433,10 @@ behind_back true in_class line keywords.Pool t r e = pool_back in_class t r e
 behind_back false in_class line keywords.Pool t r e = absurd (cc)
 behind_back true in_class line keywords.Mailbox t r e = mailbox_back in_class t r e
 behind_back false in_class line keywords.Mailbox t r e = absurd (cc)
+behind_back true in_class line keywords.Cyclic t r e = cyclic_back in_class t r e
+behind_back false in_class line keywords.Cyclic t r e = absurd (cc)
+behind_back true in_class line keywords.Alarm t r e = alarm_back in_class t r e
+behind_back false in_class line keywords.Alarm t r e = absurd (cc)
 behind_back standard in_class line keywords.Handler t r e = handler_back standard in_class t r e
 
 -- what a table has for a name stands beside this name
@@ -428,7 +453,7 @@ named_back (row ∷ rows) name x name_of are e =
 
 keyword_is : (run : List ℕ) (k : Keyword) → keyword_of run ≡ Some k → run ≡ keyword_name k
 unfolding keyword_of keyword_name
-keyword_is run k e = named_back keyword_names run k keyword_name (refl, (refl, (refl, (refl, (refl, (refl, (refl, (refl, (refl, (refl, (refl, tt))))))))))) e
+keyword_is run k e = named_back keyword_names run k keyword_name (refl, (refl, (refl, (refl, (refl, (refl, (refl, (refl, (refl, (refl, (refl, (refl, (refl, tt))))))))))))) e
 
 -- a statement at the front of a text, where it may stand
 pub record IsStatement (standard in_class : Bool) (t : Text) (r : Statement × Text) : Type 0 where

@@ -21,13 +21,15 @@ use Rattle.brd_config.specs.declared.objects.SpinLockConfig.{SpinLockConfig}
 use Rattle.brd_config.specs.declared.objects.MutexConfig.{MutexConfig}
 use Rattle.brd_config.specs.declared.objects.PoolConfig.{PoolConfig}
 use Rattle.brd_config.specs.declared.objects.MailboxConfig.{MailboxConfig}
+use Rattle.brd_config.specs.declared.objects.CyclicConfig.{CyclicConfig}
+use Rattle.brd_config.specs.declared.objects.AlarmConfig.{AlarmConfig}
 use Rattle.brd_config.specs.declared.objects.HandlerConfig.{HandlerConfig}
 use Rattle.brd_config.specs.declared.statement.AttributeNames.{AttributeNames}
 use Rattle.brd_config.specs.declared.statement.AttributeNames.TheVariants as named
 use Rattle.brd_config.specs.declared.statement.Keyword.{Keyword}
 use Rattle.brd_config.specs.declared.statement.Keyword.TheVariants as keywords
 use Rattle.brd_config.specs.declared.statement.Statement.{Statement}
-use Rattle.brd_config.specs.declared.statement.Statement.TheVariants.{Board, Class, ClassEnd, Task, Semaphore, Flag, Queue, SpinLock, Mutex, Pool, Mailbox, Handler}
+use Rattle.brd_config.specs.declared.statement.Statement.TheVariants.{Board, Class, ClassEnd, Task, Semaphore, Flag, Queue, SpinLock, Mutex, Pool, Mailbox, Cyclic, Alarm, Handler}
 use Rattle.brd_config.specs.declared.statement.TaskStatement.{TaskStatement}
 use Rattle.brd_config.specs.declared.statement.SemaphoreStatement.{SemaphoreStatement}
 use Rattle.brd_config.specs.declared.statement.FlagStatement.{FlagStatement}
@@ -36,10 +38,13 @@ use Rattle.brd_config.specs.declared.statement.SpinLockStatement.{SpinLockStatem
 use Rattle.brd_config.specs.declared.statement.MutexStatement.{MutexStatement}
 use Rattle.brd_config.specs.declared.statement.PoolStatement.{PoolStatement}
 use Rattle.brd_config.specs.declared.statement.MailboxStatement.{MailboxStatement}
+use Rattle.brd_config.specs.declared.statement.CyclicStatement.{CyclicStatement}
+use Rattle.brd_config.specs.declared.statement.AlarmStatement.{AlarmStatement}
 use Rattle.brd_config.specs.declared.statement.HandlerStatement.{HandlerStatement}
-use Rattle.brd_config.specs.Statements.{keyword_of, board_at, class_at, task_tail_at, task_at, semaphore_at, flag_at, queue_at, spin_lock_at, mutex_at, pool_at, mailbox_at, handler_at, behind_keyword, statement_by, statement_at}
+use Rattle.brd_config.specs.Configuration.{most_ticks}
+use Rattle.brd_config.specs.Statements.{keyword_of, board_at, class_at, task_tail_at, task_at, semaphore_at, flag_at, queue_at, spin_lock_at, mutex_at, pool_at, mailbox_at, cyclic_at, alarm_at, handler_at, behind_keyword, statement_by, statement_at}
 use Rattle.brd_config.specs.Reading.{attribute_of, class_of, protocol_of, operand_of, stack_of, is_null, is_area, run_of, number_at, expect_mark, mark_at, attribute_at, expect_joint, joint_at, attribute_step, attributes_at, operand_at, stack_at, area_at, null_at, class_number_at, protocol_at, listed_number_at, listed_operand_at, head_at, tail_at}
-use Rattle.brd_config.specs.Meaning.{State, within, only_bits, refused, task_numbers, task_of, semaphore_of, flag_of, queue_of, spin_lock_of, mutex_of, pool_of, mailbox_of, handler_of, added, processor_of, is_end, is_board, one_more, statement_step, statements_from, board_of, first_board, first_statement, opened, config_from, config_of}
+use Rattle.brd_config.specs.Meaning.{State, within, only_bits, refused, task_numbers, task_of, semaphore_of, flag_of, queue_of, spin_lock_of, mutex_of, pool_of, mailbox_of, cyclic_of, alarm_of, handler_of, added, processor_of, is_end, is_board, one_more, statement_step, statements_from, board_of, first_board, first_statement, opened, config_from, config_of}
 use Rattle.brd_config.specs.Grammar.{Piece, Joined, IsSpelled, AreSpelled, form}
 use Rattle.brd_config.specs.Grammar.Piece.{Exactly, Sign, Numeral, Attributes, Value, StackValue, Area, ClassName, Protocol}
 use Rattle.brd_config.specs.Grammar.Joined.{last, bar}
@@ -241,6 +246,14 @@ mailbox_ends : (t : Text) → Ends (mailbox_at t)
 unfolding mailbox_at
 mailbox_ends t = head_ends named.Mailbox 44 t then λ head. listed_number_ends head.2 then λ priorities. null_ends priorities.1 then λ null. tail_ends null then λ ended. answer_ends _
 
+cyclic_ends : (t : Text) → Ends (cyclic_at t)
+unfolding cyclic_at
+cyclic_ends t = head_ends named.Cyclic 44 t then λ head. listed_operand_ends head.2 then λ exinf. listed_operand_ends exinf.1 then λ address. listed_number_ends address.1 then λ period. number_ends period.1 then λ phase. tail_ends phase.1 then λ ended. answer_ends _
+
+alarm_ends : (t : Text) → Ends (alarm_at t)
+unfolding alarm_at
+alarm_ends t = head_ends named.Common 44 t then λ head. listed_operand_ends head.2 then λ exinf. operand_ends exinf.1 then λ address. tail_ends address.1 then λ ended. answer_ends _
+
 handler_ends : (t : Text) → Ends (handler_at t)
 unfolding handler_at
 handler_ends t = head_ends named.Common 44 t then λ head. operand_ends head.2 then λ address. tail_ends address.1 then λ ended. answer_ends _
@@ -257,6 +270,8 @@ behind_ends standard in_class line keywords.SpinLock t = spin_lock_ends t
 behind_ends standard in_class line keywords.Mutex t = either_ends standard (mutex_ends t) (syntax_ends line)
 behind_ends standard in_class line keywords.Pool t = either_ends standard (pool_ends t) (syntax_ends line)
 behind_ends standard in_class line keywords.Mailbox t = either_ends standard (mailbox_ends t) (syntax_ends line)
+behind_ends standard in_class line keywords.Cyclic t = either_ends standard (cyclic_ends t) (syntax_ends line)
+behind_ends standard in_class line keywords.Alarm t = either_ends standard (alarm_ends t) (syntax_ends line)
 behind_ends standard in_class line keywords.Handler t = handler_ends t
 
 statement_ends : (standard in_class : Bool) (t : Text) → Ends (statement_at standard in_class t)
@@ -333,6 +348,14 @@ mailbox_of_ends : (line : ℕ) (mailboxes : List MailboxConfig) (x : MailboxStat
 unfolding mailbox_of
 mailbox_of_ends line mailboxes x = id_ends line 1 255 x.id then λ id. new_ends line _ then λ new. bits_end line 3 x.attributes then λ attributes. within_ends 1 16 (BadPriority line) x.priorities (λ e. cc) then λ priorities. answer_ends _
 
+cyclic_of_ends : (line : ℕ) (cyclics : List CyclicConfig) (processor : ℕ) (x : CyclicStatement) → Ends (cyclic_of line cyclics processor x)
+unfolding cyclic_of
+cyclic_of_ends line cyclics processor x = id_ends line 1 64 x.id then λ id. new_ends line _ then λ new. bits_end line 7 x.attributes then λ attributes. count_ends line 1 most_ticks x.period then λ period. count_ends line 0 most_ticks x.phase then λ phase. answer_ends _
+
+alarm_of_ends : (line : ℕ) (alarms : List AlarmConfig) (processor : ℕ) (x : AlarmStatement) → Ends (alarm_of line alarms processor x)
+unfolding alarm_of
+alarm_of_ends line alarms processor x = id_ends line 1 64 x.id then λ id. new_ends line _ then λ new. bits_end line 1 x.attributes then λ attributes. answer_ends _
+
 handler_of_ends : (line : ℕ) (handlers : List HandlerConfig) (processor : ℕ) (x : HandlerStatement) → Ends (handler_of line handlers processor x)
 unfolding handler_of
 handler_of_ends line handlers processor x = id_ends line 0 31 x.line then λ number. new_ends line _ then λ new. bits_end line 1 x.attributes then λ attributes. answer_ends _
@@ -350,6 +373,8 @@ added_ends line s (SpinLock x) = spin_lock_of_ends line s.config.spin_locks x th
 added_ends line s (Mutex x) = mutex_of_ends line s.config.mutexes x then λ mutex. answer_ends _
 added_ends line s (Pool x) = pool_of_ends line s.config.ram s.config.pools x then λ pool. answer_ends _
 added_ends line s (Mailbox x) = mailbox_of_ends line s.config.mailboxes x then λ mailbox. answer_ends _
+added_ends line s (Cyclic x) = cyclic_of_ends line s.config.cyclics (processor_of s.class) x then λ cyclic. answer_ends _
+added_ends line s (Alarm x) = alarm_of_ends line s.config.alarms (processor_of s.class) x then λ alarm. answer_ends _
 added_ends line s (Handler x) = handler_of_ends line s.config.handlers (processor_of s.class) x then λ handler. answer_ends _
 
 one_more_ends : (s : State × Text) → Ends (one_more s)
@@ -393,6 +418,8 @@ some_piece (SpinLock x) = omega arith
 some_piece (Mutex x) = omega arith
 some_piece (Pool x) = omega arith
 some_piece (Mailbox x) = omega arith
+some_piece (Cyclic x) = omega arith
+some_piece (Alarm x) = omega arith
 some_piece (Handler x) = omega arith
 
 statement_less : (standard in_class : Bool) (t : Text) (r : Statement × Text) → statement_at standard in_class t ≡ Ok r → length r.1.tokens < length t.tokens

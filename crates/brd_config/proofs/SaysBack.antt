@@ -21,20 +21,22 @@ use Rattle.brd_config.specs.declared.objects.SpinLockConfig.{SpinLockConfig}
 use Rattle.brd_config.specs.declared.objects.MutexConfig.{MutexConfig}
 use Rattle.brd_config.specs.declared.objects.PoolConfig.{PoolConfig}
 use Rattle.brd_config.specs.declared.objects.MailboxConfig.{MailboxConfig}
+use Rattle.brd_config.specs.declared.objects.CyclicConfig.{CyclicConfig}
+use Rattle.brd_config.specs.declared.objects.AlarmConfig.{AlarmConfig}
 use Rattle.brd_config.specs.declared.objects.HandlerConfig.{HandlerConfig}
 use Rattle.brd_config.specs.declared.statement.AttributeNames.{AttributeNames}
 use Rattle.brd_config.specs.declared.statement.Statement.{Statement}
-use Rattle.brd_config.specs.declared.statement.Statement.TheVariants.{Board, Class, ClassEnd, Task, Semaphore, Flag, Queue, SpinLock, Mutex, Pool, Mailbox, Handler}
+use Rattle.brd_config.specs.declared.statement.Statement.TheVariants.{Board, Class, ClassEnd, Task, Semaphore, Flag, Queue, SpinLock, Mutex, Pool, Mailbox, Cyclic, Alarm, Handler}
 use Rattle.brd_config.specs.Statements.{statement_at, board_at}
 use Rattle.brd_config.specs.Configuration.{Configuration, IsWithin, IsConfiguration}
-use Rattle.brd_config.specs.Meaning.{State, within, refused, is_ram_size, task_of, semaphore_of, flag_of, queue_of, spin_lock_of, mutex_of, pool_of, mailbox_of, handler_of, added, processor_of, is_end, is_word, is_mark, is_board, one_more, statement_step, statements_from, board_of, first_board, first_statement, behind_profile, has_profile, opened, config_from, plain_config_of, config_of}
-use Rattle.brd_config.specs.Grammar.{Piece, Joined, IsSpelled, AreSpelled, OneRun, form, profile_form, IsOutside, IsInside, tasks_of, semaphores_of, flags_of, queues_of, spin_locks_of, mutexes_of, pools_of, mailboxes_of, handlers_of, task_said, semaphore_said, flag_said, queue_said, spin_lock_said, mutex_said, pool_said, mailbox_said, handler_said, said, AreNested, Says}
+use Rattle.brd_config.specs.Meaning.{State, within, refused, is_ram_size, task_of, semaphore_of, flag_of, queue_of, spin_lock_of, mutex_of, pool_of, mailbox_of, cyclic_of, alarm_of, handler_of, added, processor_of, is_end, is_word, is_mark, is_board, one_more, statement_step, statements_from, board_of, first_board, first_statement, behind_profile, has_profile, opened, config_from, plain_config_of, config_of}
+use Rattle.brd_config.specs.Grammar.{Piece, Joined, IsSpelled, AreSpelled, OneRun, form, profile_form, IsOutside, IsInside, tasks_of, semaphores_of, flags_of, queues_of, spin_locks_of, mutexes_of, pools_of, mailboxes_of, cyclics_of, alarms_of, handlers_of, task_said, semaphore_said, flag_said, queue_said, spin_lock_said, mutex_said, pool_said, mailbox_said, cyclic_said, alarm_said, handler_said, said, AreNested, Says}
 use Rattle.brd_config.specs.Grammar.Piece.{Exactly, Sign, Numeral, Attributes, Value, StackValue, Area, ClassName, Protocol}
 use Rattle.brd_config.specs.Grammar.Joined.{last, bar}
 use Rattle.brd_config.proofs.Forms.{MayStand}
 use Rattle.brd_config.proofs.FormsBack.{Front, ◌then◌, both_spelled, one_front, exactly, board_back, statement_back}
 use Rattle.brd_config.proofs.SpelledBack.{AreClosed, AreTokens, spelled_back, are_tokens}
-use Rattle.brd_config.proofs.Validity.{IsState, one_ok, two_ok, within_ok, task_ok, semaphore_ok, flag_ok, queue_ok, spin_lock_ok, mutex_ok, pool_ok, mailbox_ok, handler_ok, added_ok, first_ok, config_is_valid}
+use Rattle.brd_config.proofs.Validity.{IsState, one_ok, two_ok, within_ok, task_ok, semaphore_ok, flag_ok, queue_ok, spin_lock_ok, mutex_ok, pool_ok, mailbox_ok, cyclic_ok, alarm_ok, handler_ok, added_ok, first_ok, config_is_valid}
 use Rattle.brd_config.proofs.Accepted.{Leads, started, all_said}
 
 -- ---- tokens of pieces
@@ -107,64 +109,76 @@ goes_back line whole s next (Class n) ss is may e =
     let w = within_ok 1 s.config.processors (BadProcessor line) n p.0 p.1 in
     let same : record s { class = Some n } ≡ next = ap (λ (k : ℕ). record s { class = Some k }) (sym w.0) ∙ p.2 in
     subst (GoesBack whole s (Class n) ss) same
-    (λ l nested. (record { standard = l.standard; processors = l.processors; ram = l.ram; tasks = l.tasks; semaphores = l.semaphores; flags = l.flags; queues = l.queues; spin_locks = l.spin_locks; mutexes = l.mutexes; pools = l.pools; mailboxes = l.mailboxes; handlers = l.handlers }, (outside s.class may, subst (IsWithin 1 s.config.processors) w.0 w.1, nested)))
+    (λ l nested. (record { standard = l.standard; processors = l.processors; ram = l.ram; tasks = l.tasks; semaphores = l.semaphores; flags = l.flags; queues = l.queues; spin_locks = l.spin_locks; mutexes = l.mutexes; pools = l.pools; mailboxes = l.mailboxes; cyclics = l.cyclics; alarms = l.alarms; handlers = l.handlers }, (outside s.class may, subst (IsWithin 1 s.config.processors) w.0 w.1, nested)))
 goes_back line whole s next ClassEnd ss is may e =
     subst (GoesBack whole s ClassEnd ss) (ok_is (record s { class = None }) next e)
-    (λ l nested. (record { standard = l.standard; processors = l.processors; ram = l.ram; tasks = l.tasks; semaphores = l.semaphores; flags = l.flags; queues = l.queues; spin_locks = l.spin_locks; mutexes = l.mutexes; pools = l.pools; mailboxes = l.mailboxes; handlers = l.handlers }, (inside s.class may, nested)))
+    (λ l nested. (record { standard = l.standard; processors = l.processors; ram = l.ram; tasks = l.tasks; semaphores = l.semaphores; flags = l.flags; queues = l.queues; spin_locks = l.spin_locks; mutexes = l.mutexes; pools = l.pools; mailboxes = l.mailboxes; cyclics = l.cyclics; alarms = l.alarms; handlers = l.handlers }, (inside s.class may, nested)))
 goes_back line whole s next (Task x) ss is may e =
     let add : TaskConfig → State = λ made. record s { config = record s.config { tasks = s.config.tasks ++ made ∷ [] } } in
     let p = one_ok (task_of line s.config.tasks (processor_of s.class) x) add next e in
     let ok = task_ok line s.config.tasks s.config.processors (processor_of s.class) x p.0 is.class p.1 in
     subst (GoesBack whole s (Task x) ss) (ap add (sym ok.2) ∙ p.2)
-    (λ l nested. (record { standard = l.standard; processors = l.processors; ram = l.ram; tasks = l.tasks ∙ append_assoc s.config.tasks (task_said (processor_of s.class) x ∷ []) (tasks_of s.class ss); semaphores = l.semaphores; flags = l.flags; queues = l.queues; spin_locks = l.spin_locks; mutexes = l.mutexes; pools = l.pools; mailboxes = l.mailboxes; handlers = l.handlers }, nested))
+    (λ l nested. (record { standard = l.standard; processors = l.processors; ram = l.ram; tasks = l.tasks ∙ append_assoc s.config.tasks (task_said (processor_of s.class) x ∷ []) (tasks_of s.class ss); semaphores = l.semaphores; flags = l.flags; queues = l.queues; spin_locks = l.spin_locks; mutexes = l.mutexes; pools = l.pools; mailboxes = l.mailboxes; cyclics = l.cyclics; alarms = l.alarms; handlers = l.handlers }, nested))
 goes_back line whole s next (Semaphore x) ss is may e =
     let add : SemaphoreConfig → State = λ made. record s { config = record s.config { semaphores = s.config.semaphores ++ made ∷ [] } } in
     let p = one_ok (semaphore_of line s.config.semaphores x) add next e in
     let ok = semaphore_ok line s.config.semaphores x p.0 p.1 in
     subst (GoesBack whole s (Semaphore x) ss) (ap add (sym ok.2) ∙ p.2)
-    (λ l nested. (record { standard = l.standard; processors = l.processors; ram = l.ram; tasks = l.tasks; semaphores = l.semaphores ∙ append_assoc s.config.semaphores (semaphore_said x ∷ []) (semaphores_of ss); flags = l.flags; queues = l.queues; spin_locks = l.spin_locks; mutexes = l.mutexes; pools = l.pools; mailboxes = l.mailboxes; handlers = l.handlers }, nested))
+    (λ l nested. (record { standard = l.standard; processors = l.processors; ram = l.ram; tasks = l.tasks; semaphores = l.semaphores ∙ append_assoc s.config.semaphores (semaphore_said x ∷ []) (semaphores_of ss); flags = l.flags; queues = l.queues; spin_locks = l.spin_locks; mutexes = l.mutexes; pools = l.pools; mailboxes = l.mailboxes; cyclics = l.cyclics; alarms = l.alarms; handlers = l.handlers }, nested))
 goes_back line whole s next (Flag x) ss is may e =
     let add : FlagConfig → State = λ made. record s { config = record s.config { flags = s.config.flags ++ made ∷ [] } } in
     let p = one_ok (flag_of line s.config.flags x) add next e in
     let ok = flag_ok line s.config.flags x p.0 p.1 in
     subst (GoesBack whole s (Flag x) ss) (ap add (sym ok.2) ∙ p.2)
-    (λ l nested. (record { standard = l.standard; processors = l.processors; ram = l.ram; tasks = l.tasks; semaphores = l.semaphores; flags = l.flags ∙ append_assoc s.config.flags (flag_said x ∷ []) (flags_of ss); queues = l.queues; spin_locks = l.spin_locks; mutexes = l.mutexes; pools = l.pools; mailboxes = l.mailboxes; handlers = l.handlers }, nested))
+    (λ l nested. (record { standard = l.standard; processors = l.processors; ram = l.ram; tasks = l.tasks; semaphores = l.semaphores; flags = l.flags ∙ append_assoc s.config.flags (flag_said x ∷ []) (flags_of ss); queues = l.queues; spin_locks = l.spin_locks; mutexes = l.mutexes; pools = l.pools; mailboxes = l.mailboxes; cyclics = l.cyclics; alarms = l.alarms; handlers = l.handlers }, nested))
 goes_back line whole s next (Queue x) ss is may e =
     let add : QueueConfig → State = λ made. record s { config = record s.config { queues = s.config.queues ++ made ∷ [] } } in
     let p = one_ok (queue_of line s.config.queues x) add next e in
     let ok = queue_ok line s.config.queues x p.0 p.1 in
     subst (GoesBack whole s (Queue x) ss) (ap add (sym ok.2) ∙ p.2)
-    (λ l nested. (record { standard = l.standard; processors = l.processors; ram = l.ram; tasks = l.tasks; semaphores = l.semaphores; flags = l.flags; queues = l.queues ∙ append_assoc s.config.queues (queue_said x ∷ []) (queues_of ss); spin_locks = l.spin_locks; mutexes = l.mutexes; pools = l.pools; mailboxes = l.mailboxes; handlers = l.handlers }, nested))
+    (λ l nested. (record { standard = l.standard; processors = l.processors; ram = l.ram; tasks = l.tasks; semaphores = l.semaphores; flags = l.flags; queues = l.queues ∙ append_assoc s.config.queues (queue_said x ∷ []) (queues_of ss); spin_locks = l.spin_locks; mutexes = l.mutexes; pools = l.pools; mailboxes = l.mailboxes; cyclics = l.cyclics; alarms = l.alarms; handlers = l.handlers }, nested))
 goes_back line whole s next (SpinLock x) ss is may e =
     let add : SpinLockConfig → State = λ made. record s { config = record s.config { spin_locks = s.config.spin_locks ++ made ∷ [] } } in
     let p = one_ok (spin_lock_of line s.config.spin_locks x) add next e in
     let ok = spin_lock_ok line s.config.spin_locks x p.0 p.1 in
     subst (GoesBack whole s (SpinLock x) ss) (ap add (sym ok.2) ∙ p.2)
-    (λ l nested. (record { standard = l.standard; processors = l.processors; ram = l.ram; tasks = l.tasks; semaphores = l.semaphores; flags = l.flags; queues = l.queues; spin_locks = l.spin_locks ∙ append_assoc s.config.spin_locks (spin_lock_said x ∷ []) (spin_locks_of ss); mutexes = l.mutexes; pools = l.pools; mailboxes = l.mailboxes; handlers = l.handlers }, (ok.3, nested)))
+    (λ l nested. (record { standard = l.standard; processors = l.processors; ram = l.ram; tasks = l.tasks; semaphores = l.semaphores; flags = l.flags; queues = l.queues; spin_locks = l.spin_locks ∙ append_assoc s.config.spin_locks (spin_lock_said x ∷ []) (spin_locks_of ss); mutexes = l.mutexes; pools = l.pools; mailboxes = l.mailboxes; cyclics = l.cyclics; alarms = l.alarms; handlers = l.handlers }, (ok.3, nested)))
 goes_back line whole s next (Mutex x) ss is may e =
     let add : MutexConfig → State = λ made. record s { config = record s.config { mutexes = s.config.mutexes ++ made ∷ [] } } in
     let p = one_ok (mutex_of line s.config.mutexes x) add next e in
     let ok = mutex_ok line s.config.mutexes x p.0 p.1 in
     subst (GoesBack whole s (Mutex x) ss) (ap add (sym ok.2) ∙ p.2)
-    (λ l nested. (record { standard = l.standard; processors = l.processors; ram = l.ram; tasks = l.tasks; semaphores = l.semaphores; flags = l.flags; queues = l.queues; spin_locks = l.spin_locks; mutexes = l.mutexes ∙ append_assoc s.config.mutexes (mutex_said x ∷ []) (mutexes_of ss); pools = l.pools; mailboxes = l.mailboxes; handlers = l.handlers }, (may, ok.3, nested)))
+    (λ l nested. (record { standard = l.standard; processors = l.processors; ram = l.ram; tasks = l.tasks; semaphores = l.semaphores; flags = l.flags; queues = l.queues; spin_locks = l.spin_locks; mutexes = l.mutexes ∙ append_assoc s.config.mutexes (mutex_said x ∷ []) (mutexes_of ss); pools = l.pools; mailboxes = l.mailboxes; cyclics = l.cyclics; alarms = l.alarms; handlers = l.handlers }, (may, ok.3, nested)))
 goes_back line whole s next (Pool x) ss is may e =
     let add : PoolConfig → State = λ made. record s { config = record s.config { pools = s.config.pools ++ made ∷ [] } } in
     let p = one_ok (pool_of line s.config.ram s.config.pools x) add next e in
     let ok = pool_ok line s.config.ram s.config.pools x p.0 p.1 in
     subst (GoesBack whole s (Pool x) ss) (ap add (sym ok.2) ∙ p.2)
-    (λ l nested. (record { standard = l.standard; processors = l.processors; ram = l.ram; tasks = l.tasks; semaphores = l.semaphores; flags = l.flags; queues = l.queues; spin_locks = l.spin_locks; mutexes = l.mutexes; pools = l.pools ∙ append_assoc s.config.pools (pool_said x ∷ []) (pools_of ss); mailboxes = l.mailboxes; handlers = l.handlers }, (may, nested)))
+    (λ l nested. (record { standard = l.standard; processors = l.processors; ram = l.ram; tasks = l.tasks; semaphores = l.semaphores; flags = l.flags; queues = l.queues; spin_locks = l.spin_locks; mutexes = l.mutexes; pools = l.pools ∙ append_assoc s.config.pools (pool_said x ∷ []) (pools_of ss); mailboxes = l.mailboxes; cyclics = l.cyclics; alarms = l.alarms; handlers = l.handlers }, (may, nested)))
 goes_back line whole s next (Mailbox x) ss is may e =
     let add : MailboxConfig → State = λ made. record s { config = record s.config { mailboxes = s.config.mailboxes ++ made ∷ [] } } in
     let p = one_ok (mailbox_of line s.config.mailboxes x) add next e in
     let ok = mailbox_ok line s.config.mailboxes x p.0 p.1 in
     subst (GoesBack whole s (Mailbox x) ss) (ap add (sym ok.2) ∙ p.2)
-    (λ l nested. (record { standard = l.standard; processors = l.processors; ram = l.ram; tasks = l.tasks; semaphores = l.semaphores; flags = l.flags; queues = l.queues; spin_locks = l.spin_locks; mutexes = l.mutexes; pools = l.pools; mailboxes = l.mailboxes ∙ append_assoc s.config.mailboxes (mailbox_said x ∷ []) (mailboxes_of ss); handlers = l.handlers }, (may, nested)))
+    (λ l nested. (record { standard = l.standard; processors = l.processors; ram = l.ram; tasks = l.tasks; semaphores = l.semaphores; flags = l.flags; queues = l.queues; spin_locks = l.spin_locks; mutexes = l.mutexes; pools = l.pools; mailboxes = l.mailboxes ∙ append_assoc s.config.mailboxes (mailbox_said x ∷ []) (mailboxes_of ss); cyclics = l.cyclics; alarms = l.alarms; handlers = l.handlers }, (may, nested)))
+goes_back line whole s next (Cyclic x) ss is may e =
+    let add : CyclicConfig → State = λ made. record s { config = record s.config { cyclics = s.config.cyclics ++ made ∷ [] } } in
+    let p = one_ok (cyclic_of line s.config.cyclics (processor_of s.class) x) add next e in
+    let ok = cyclic_ok line s.config.cyclics s.config.processors (processor_of s.class) x p.0 is.class p.1 in
+    subst (GoesBack whole s (Cyclic x) ss) (ap add (sym ok.2) ∙ p.2)
+    (λ l nested. (record { standard = l.standard; processors = l.processors; ram = l.ram; tasks = l.tasks; semaphores = l.semaphores; flags = l.flags; queues = l.queues; spin_locks = l.spin_locks; mutexes = l.mutexes; pools = l.pools; mailboxes = l.mailboxes; cyclics = l.cyclics ∙ append_assoc s.config.cyclics (cyclic_said (processor_of s.class) x ∷ []) (cyclics_of s.class ss); alarms = l.alarms; handlers = l.handlers }, (may, nested)))
+goes_back line whole s next (Alarm x) ss is may e =
+    let add : AlarmConfig → State = λ made. record s { config = record s.config { alarms = s.config.alarms ++ made ∷ [] } } in
+    let p = one_ok (alarm_of line s.config.alarms (processor_of s.class) x) add next e in
+    let ok = alarm_ok line s.config.alarms s.config.processors (processor_of s.class) x p.0 is.class p.1 in
+    subst (GoesBack whole s (Alarm x) ss) (ap add (sym ok.2) ∙ p.2)
+    (λ l nested. (record { standard = l.standard; processors = l.processors; ram = l.ram; tasks = l.tasks; semaphores = l.semaphores; flags = l.flags; queues = l.queues; spin_locks = l.spin_locks; mutexes = l.mutexes; pools = l.pools; mailboxes = l.mailboxes; cyclics = l.cyclics; alarms = l.alarms ∙ append_assoc s.config.alarms (alarm_said (processor_of s.class) x ∷ []) (alarms_of s.class ss); handlers = l.handlers }, (may, ok.3, nested)))
 goes_back line whole s next (Handler x) ss is may e =
     let add : HandlerConfig → State = λ made. record s { config = record s.config { handlers = s.config.handlers ++ made ∷ [] } } in
     let p = one_ok (handler_of line s.config.handlers (processor_of s.class) x) add next e in
     let ok = handler_ok line s.config.handlers s.config.processors (processor_of s.class) x p.0 is.class p.1 in
     subst (GoesBack whole s (Handler x) ss) (ap add (sym ok.2) ∙ p.2)
-    (λ l nested. (record { standard = l.standard; processors = l.processors; ram = l.ram; tasks = l.tasks; semaphores = l.semaphores; flags = l.flags; queues = l.queues; spin_locks = l.spin_locks; mutexes = l.mutexes; pools = l.pools; mailboxes = l.mailboxes; handlers = l.handlers ∙ append_assoc s.config.handlers (handler_said (processor_of s.class) x ∷ []) (handlers_of s.class ss) }, (ok.3, nested)))
+    (λ l nested. (record { standard = l.standard; processors = l.processors; ram = l.ram; tasks = l.tasks; semaphores = l.semaphores; flags = l.flags; queues = l.queues; spin_locks = l.spin_locks; mutexes = l.mutexes; pools = l.pools; mailboxes = l.mailboxes; cyclics = l.cyclics; alarms = l.alarms; handlers = l.handlers ∙ append_assoc s.config.handlers (handler_said (processor_of s.class) x ∷ []) (handlers_of s.class ss) }, (ok.3, nested)))
 
 -- ---- the statements up to the end
 
@@ -183,7 +197,7 @@ nothing_told whole s are ends e =
     (record {
       statements = [];
       spelled = no_tokens s.1 are parts.1;
-      leads = record { standard = refl; processors = refl; ram = refl; tasks = sym (append-nil s.0.config.tasks); semaphores = sym (append-nil s.0.config.semaphores); flags = sym (append-nil s.0.config.flags); queues = sym (append-nil s.0.config.queues); spin_locks = sym (append-nil s.0.config.spin_locks); mutexes = sym (append-nil s.0.config.mutexes); pools = sym (append-nil s.0.config.pools); mailboxes = sym (append-nil s.0.config.mailboxes); handlers = sym (append-nil s.0.config.handlers) };
+      leads = record { standard = refl; processors = refl; ram = refl; tasks = sym (append-nil s.0.config.tasks); semaphores = sym (append-nil s.0.config.semaphores); flags = sym (append-nil s.0.config.flags); queues = sym (append-nil s.0.config.queues); spin_locks = sym (append-nil s.0.config.spin_locks); mutexes = sym (append-nil s.0.config.mutexes); pools = sym (append-nil s.0.config.pools); mailboxes = sym (append-nil s.0.config.mailboxes); cyclics = sym (append-nil s.0.config.cyclics); alarms = sym (append-nil s.0.config.alarms); handlers = sym (append-nil s.0.config.handlers) };
       nested = unnested s.0.class parts.0;
     })
   where
@@ -251,7 +265,7 @@ board_said : (standard : Bool) (line processors ram : ℕ) (c : Configuration) �
 unfolding board_of
 board_said standard line processors ram c e =
     let p = two_ok (within 1 8 (BadProcessor line) processors) (refused (not (is_ram_size ram)) (BadCount line))
-    (λ count sized. record { standard = standard; processors = count; ram = ram; tasks = []; semaphores = []; flags = []; queues = []; spin_locks = []; mutexes = []; pools = []; mailboxes = []; handlers = [] }) c e in
+    (λ count sized. record { standard = standard; processors = count; ram = ram; tasks = []; semaphores = []; flags = []; queues = []; spin_locks = []; mutexes = []; pools = []; mailboxes = []; cyclics = []; alarms = []; handlers = [] }) c e in
     sym p.4 ∙ ap (λ (count : ℕ). started standard count ram) (within_ok 1 8 (BadProcessor line) processors p.0 p.2).0
 
 begun_back : (standard : Bool) (line : ℕ) (t : Text) (s : State × Text) → (first t).token ≡ Run (codes "BOARD") → first_board standard line (others t) ≡ Ok s → IsBegun standard t s
@@ -324,6 +338,8 @@ whole_said whole standard processors ram ss l = sym (all_said whole (said standa
   mutexes = l.mutexes ∙ sym (append-nil (mutexes_of ss));
   pools = l.pools ∙ sym (append-nil (pools_of ss));
   mailboxes = l.mailboxes ∙ sym (append-nil (mailboxes_of ss));
+  cyclics = l.cyclics ∙ sym (append-nil (cyclics_of None ss));
+  alarms = l.alarms ∙ sym (append-nil (alarms_of None ss));
   handlers = l.handlers ∙ sym (append-nil (handlers_of None ss));
 }))
 
@@ -389,10 +405,11 @@ plain_text bytes none = rw none refl
 
 -- what a configuration has in the profile alone
 abbrev HasNone : Configuration → Type 0
-HasNone c = (c.mutexes ≡ []) × (c.pools ≡ []) × (c.mailboxes ≡ [])
+HasNone c = (c.mutexes ≡ []) × (c.pools ≡ []) × (c.mailboxes ≡ []) × (c.cyclics ≡ []) × (c.alarms ≡ [])
 
-none_said : (processors : ℕ) (class : Option ℕ) (ss : List Statement) → AreNested false processors class ss → (mutexes_of ss ≡ []) × (pools_of ss ≡ []) × (mailboxes_of ss ≡ [])
-none_said processors class [] nested = (refl, refl, refl)
+none_said : (processors : ℕ) (class : Option ℕ) (ss : List Statement) → AreNested false processors class ss →
+    (mutexes_of ss ≡ []) × (pools_of ss ≡ []) × (mailboxes_of ss ≡ []) × (cyclics_of class ss ≡ []) × (alarms_of class ss ≡ [])
+none_said processors class [] nested = (refl, refl, refl, refl, refl)
 none_said processors class (Board p ram ∷ ss) nested = absurd nested
 none_said processors class (Class n ∷ ss) nested = none_said processors (Some n) ss nested.2
 none_said processors class (ClassEnd ∷ ss) nested = none_said processors None ss nested.1
@@ -404,13 +421,16 @@ none_said processors class (SpinLock x ∷ ss) nested = none_said processors cla
 none_said processors class (Mutex x ∷ ss) nested = let wrong : ⊥ = cc in absurd wrong
 none_said processors class (Pool x ∷ ss) nested = let wrong : ⊥ = cc in absurd wrong
 none_said processors class (Mailbox x ∷ ss) nested = let wrong : ⊥ = cc in absurd wrong
+none_said processors class (Cyclic x ∷ ss) nested = let wrong : ⊥ = cc in absurd wrong
+none_said processors class (Alarm x ∷ ss) nested = let wrong : ⊥ = cc in absurd wrong
 none_said processors class (Handler x ∷ ss) nested = none_said processors class ss nested.1
 
 none_of : (standard : Bool) (processors ram : ℕ) (ss : List Statement) → AreNested standard processors None ss → standard ≡ false → HasNone (said standard processors ram ss)
 none_of true processors ram ss nested is = let wrong : ⊥ = cc in absurd wrong
 none_of false processors ram ss nested is = none_said processors None ss nested
 
-pub none_without : (bytes : List ℕ) (c : Configuration) → config_of bytes ≡ Ok c → c.standard ≡ false → (c.mutexes ≡ []) × (c.pools ≡ []) × (c.mailboxes ≡ [])
+pub none_without : (bytes : List ℕ) (c : Configuration) → config_of bytes ≡ Ok c → c.standard ≡ false →
+    (c.mutexes ≡ []) × (c.pools ≡ []) × (c.mailboxes ≡ []) × (c.cyclics ≡ []) × (c.alarms ≡ [])
 none_without bytes c e is =
     let s = says_back bytes c e in
     let same : c ≡ said s.0 s.1 s.2 s.3 = s.6 in

@@ -33,16 +33,20 @@ use Rattle.brd_config.specs.declared.statement.SpinLockStatement.{SpinLockStatem
 use Rattle.brd_config.specs.declared.statement.MutexStatement.{MutexStatement}
 use Rattle.brd_config.specs.declared.objects.PoolConfig.{PoolConfig}
 use Rattle.brd_config.specs.declared.objects.MailboxConfig.{MailboxConfig}
+use Rattle.brd_config.specs.declared.objects.CyclicConfig.{CyclicConfig}
+use Rattle.brd_config.specs.declared.objects.AlarmConfig.{AlarmConfig}
 use Rattle.brd_config.specs.declared.objects.HandlerConfig.{HandlerConfig}
 use Rattle.brd_config.specs.declared.statement.PoolStatement.{PoolStatement}
 use Rattle.brd_config.specs.declared.statement.MailboxStatement.{MailboxStatement}
+use Rattle.brd_config.specs.declared.statement.CyclicStatement.{CyclicStatement}
+use Rattle.brd_config.specs.declared.statement.AlarmStatement.{AlarmStatement}
 use Rattle.brd_config.specs.declared.statement.HandlerStatement.{HandlerStatement}
 use Rattle.brd_config.specs.declared.statement.Statement.{Statement}
-use Rattle.brd_config.specs.declared.statement.Statement.TheVariants.{Board, Class, ClassEnd, Task, Semaphore, Flag, Queue, SpinLock, Mutex, Pool, Mailbox, Handler}
+use Rattle.brd_config.specs.declared.statement.Statement.TheVariants.{Board, Class, ClassEnd, Task, Semaphore, Flag, Queue, SpinLock, Mutex, Pool, Mailbox, Cyclic, Alarm, Handler}
 use Rattle.brd_config.specs.Statements.{statement_at, board_at}
-use Rattle.brd_config.specs.Configuration.{Configuration, IsWithin, IsTask, IsSemaphore, IsFlag, IsQueue, IsSpinLock, IsMutex, least_ceiling, IsPool, IsMailbox, IsHandler, IsConfiguration}
-use Rattle.brd_config.specs.Meaning.{State, within, only_bits, refused, is_ram_size, task_numbers, task_of, semaphore_of, flag_of, queue_of, spin_lock_of, mutex_of, meant_protocol, pool_of, mailbox_of, handler_of, added, processor_of, is_end, is_board, one_more, statement_step, statements_from, board_of, first_board, first_statement, opened, config_from, config_of}
-use Rattle.brd_config.specs.Grammar.{task_said, semaphore_said, flag_said, queue_said, spin_lock_said, mutex_said, pool_said, mailbox_said, handler_said}
+use Rattle.brd_config.specs.Configuration.{Configuration, IsWithin, IsTask, IsSemaphore, IsFlag, IsQueue, IsSpinLock, IsMutex, least_ceiling, IsPool, IsMailbox, IsCyclic, IsAlarm, most_ticks, IsHandler, IsConfiguration}
+use Rattle.brd_config.specs.Meaning.{State, within, only_bits, refused, is_ram_size, task_numbers, task_of, semaphore_of, flag_of, queue_of, spin_lock_of, mutex_of, meant_protocol, pool_of, mailbox_of, cyclic_of, alarm_of, handler_of, added, processor_of, is_end, is_board, one_more, statement_step, statements_from, board_of, first_board, first_statement, opened, config_from, config_of}
+use Rattle.brd_config.specs.Grammar.{task_said, semaphore_said, flag_said, queue_said, spin_lock_said, mutex_said, pool_said, mailbox_said, cyclic_said, alarm_said, handler_said}
 use Rattle.brd_config.proofs.RamSize.{has_ram_size}
 
 -- ---- lists
@@ -224,6 +228,31 @@ mailbox_ok line mailboxes t x e =
     let priorities = within_ok 1 16 (BadPriority line) t.priorities p.3 p.7 in
     rw (← p.8) (record { id = id.1; attributes = attributes.1; priorities = priorities.1 }, rw id.0 new, rw (id.0, attributes.0, priorities.0) refl)
 
+pub cyclic_ok : (line : ℕ) (cyclics : List CyclicConfig) (processors processor : ℕ) (t : CyclicStatement) (x : CyclicConfig) → IsWithin 1 processors processor → cyclic_of line cyclics processor t ≡ Ok x
+    → IsCyclic processors x × (list_any (λ o. nat_eq o.id x.id) cyclics ≡ false) × (x ≡ cyclic_said processor t)
+unfolding cyclic_of
+cyclic_ok line cyclics processors processor t x on e =
+    let p = five_ok (within 1 64 (BadId line) t.id) (refused (list_any (λ o. nat_eq o.id t.id) cyclics) (Duplicate line)) (only_bits 7 (BadAttribute line) t.attributes)
+    (within 1 most_ticks (BadCount line) t.period) (within 0 most_ticks (BadCount line) t.phase)
+    (λ id new attributes period phase. record { id = id; processor = processor; attributes = record { 0 = attributes }; exinf = t.exinf; address = t.address; period = period; phase = phase }) x e in
+    let id = within_ok 1 64 (BadId line) t.id p.0 p.5 in
+    let new = refused_ok (list_any (λ o. nat_eq o.id t.id) cyclics) (Duplicate line) p.1 p.6 in
+    let attributes = only_bits_ok 7 (BadAttribute line) t.attributes p.2 p.7 in
+    let period = within_ok 1 most_ticks (BadCount line) t.period p.3 p.8 in
+    let phase = within_ok 0 most_ticks (BadCount line) t.phase p.4 p.9 in
+    rw (← p.10) (record { id = id.1; processor = on; attributes = attributes.1; period = period.1; phase = phase.1.most }, rw id.0 new, rw (id.0, attributes.0, period.0, phase.0) refl)
+
+pub alarm_ok : (line : ℕ) (alarms : List AlarmConfig) (processors processor : ℕ) (t : AlarmStatement) (x : AlarmConfig) → IsWithin 1 processors processor → alarm_of line alarms processor t ≡ Ok x
+    → IsAlarm processors x × (list_any (λ o. nat_eq o.id x.id) alarms ≡ false) × (x ≡ alarm_said processor t) × (t.attributes ≤ 1)
+unfolding alarm_of
+alarm_ok line alarms processors processor t x on e =
+    let p = three_ok (within 1 64 (BadId line) t.id) (refused (list_any (λ o. nat_eq o.id t.id) alarms) (Duplicate line)) (only_bits 1 (BadAttribute line) t.attributes)
+    (λ id new attributes. record { id = id; processor = processor; exinf = t.exinf; address = t.address }) x e in
+    let id = within_ok 1 64 (BadId line) t.id p.0 p.3 in
+    let new = refused_ok (list_any (λ o. nat_eq o.id t.id) alarms) (Duplicate line) p.1 p.4 in
+    let attributes = only_bits_ok 1 (BadAttribute line) t.attributes p.2 p.5 in
+    rw (← p.6) (record { id = id.1; processor = on }, rw id.0 new, rw id.0 refl, omega (arith, attributes.0, attributes.1))
+
 pub handler_ok : (line : ℕ) (handlers : List HandlerConfig) (processors processor : ℕ) (t : HandlerStatement) (x : HandlerConfig) → IsWithin 1 processors processor → handler_of line handlers processor t ≡ Ok x
     → IsHandler processors x × (list_any (λ o. nat_eq o.line x.line) handlers ≡ false) × (x ≡ handler_said processor t) × (t.attributes ≤ 1)
 unfolding handler_of
@@ -257,63 +286,77 @@ added_ok line s t (Task x) e h =
     let p = one_ok (task_of line s.config.tasks (processor_of s.class) x) (λ made. record s { config = record s.config { tasks = s.config.tasks ++ made ∷ [] } }) t e in
     let ok = task_ok line s.config.tasks s.config.processors (processor_of s.class) x p.0 h.class p.1 in
     rw (← p.2) (record {
-      config = record { processors = h.config.processors; ram = h.config.ram; tasks = All-push (IsTask s.config.processors) s.config.tasks p.0 h.config.tasks ok.0; semaphores = h.config.semaphores; flags = h.config.flags; queues = h.config.queues; spin_locks = h.config.spin_locks; mutexes = h.config.mutexes; pools = h.config.pools; mailboxes = h.config.mailboxes; handlers = h.config.handlers; task_ids = keys_stay (λ o. o.id) s.config.tasks p.0 ok.1 h.config.task_ids; semaphore_ids = h.config.semaphore_ids; flag_ids = h.config.flag_ids; queue_ids = h.config.queue_ids; spin_lock_ids = h.config.spin_lock_ids; mutex_ids = h.config.mutex_ids; pool_ids = h.config.pool_ids; mailbox_ids = h.config.mailbox_ids; handler_lines = h.config.handler_lines };
+      config = record { processors = h.config.processors; ram = h.config.ram; tasks = All-push (IsTask s.config.processors) s.config.tasks p.0 h.config.tasks ok.0; semaphores = h.config.semaphores; flags = h.config.flags; queues = h.config.queues; spin_locks = h.config.spin_locks; mutexes = h.config.mutexes; pools = h.config.pools; mailboxes = h.config.mailboxes; cyclics = h.config.cyclics; alarms = h.config.alarms; handlers = h.config.handlers; task_ids = keys_stay (λ o. o.id) s.config.tasks p.0 ok.1 h.config.task_ids; semaphore_ids = h.config.semaphore_ids; flag_ids = h.config.flag_ids; queue_ids = h.config.queue_ids; spin_lock_ids = h.config.spin_lock_ids; mutex_ids = h.config.mutex_ids; pool_ids = h.config.pool_ids; mailbox_ids = h.config.mailbox_ids; cyclic_ids = h.config.cyclic_ids; alarm_ids = h.config.alarm_ids; handler_lines = h.config.handler_lines };
       class = h.class;
     })
 added_ok line s t (Semaphore x) e h =
     let p = one_ok (semaphore_of line s.config.semaphores x) (λ made. record s { config = record s.config { semaphores = s.config.semaphores ++ made ∷ [] } }) t e in
     let ok = semaphore_ok line s.config.semaphores x p.0 p.1 in
     rw (← p.2) (record {
-      config = record { processors = h.config.processors; ram = h.config.ram; tasks = h.config.tasks; semaphores = All-push IsSemaphore s.config.semaphores p.0 h.config.semaphores ok.0; flags = h.config.flags; queues = h.config.queues; spin_locks = h.config.spin_locks; mutexes = h.config.mutexes; pools = h.config.pools; mailboxes = h.config.mailboxes; handlers = h.config.handlers; task_ids = h.config.task_ids; semaphore_ids = keys_stay (λ o. o.id) s.config.semaphores p.0 ok.1 h.config.semaphore_ids; flag_ids = h.config.flag_ids; queue_ids = h.config.queue_ids; spin_lock_ids = h.config.spin_lock_ids; mutex_ids = h.config.mutex_ids; pool_ids = h.config.pool_ids; mailbox_ids = h.config.mailbox_ids; handler_lines = h.config.handler_lines };
+      config = record { processors = h.config.processors; ram = h.config.ram; tasks = h.config.tasks; semaphores = All-push IsSemaphore s.config.semaphores p.0 h.config.semaphores ok.0; flags = h.config.flags; queues = h.config.queues; spin_locks = h.config.spin_locks; mutexes = h.config.mutexes; pools = h.config.pools; mailboxes = h.config.mailboxes; cyclics = h.config.cyclics; alarms = h.config.alarms; handlers = h.config.handlers; task_ids = h.config.task_ids; semaphore_ids = keys_stay (λ o. o.id) s.config.semaphores p.0 ok.1 h.config.semaphore_ids; flag_ids = h.config.flag_ids; queue_ids = h.config.queue_ids; spin_lock_ids = h.config.spin_lock_ids; mutex_ids = h.config.mutex_ids; pool_ids = h.config.pool_ids; mailbox_ids = h.config.mailbox_ids; cyclic_ids = h.config.cyclic_ids; alarm_ids = h.config.alarm_ids; handler_lines = h.config.handler_lines };
       class = h.class;
     })
 added_ok line s t (Flag x) e h =
     let p = one_ok (flag_of line s.config.flags x) (λ made. record s { config = record s.config { flags = s.config.flags ++ made ∷ [] } }) t e in
     let ok = flag_ok line s.config.flags x p.0 p.1 in
     rw (← p.2) (record {
-      config = record { processors = h.config.processors; ram = h.config.ram; tasks = h.config.tasks; semaphores = h.config.semaphores; flags = All-push IsFlag s.config.flags p.0 h.config.flags ok.0; queues = h.config.queues; spin_locks = h.config.spin_locks; mutexes = h.config.mutexes; pools = h.config.pools; mailboxes = h.config.mailboxes; handlers = h.config.handlers; task_ids = h.config.task_ids; semaphore_ids = h.config.semaphore_ids; flag_ids = keys_stay (λ o. o.id) s.config.flags p.0 ok.1 h.config.flag_ids; queue_ids = h.config.queue_ids; spin_lock_ids = h.config.spin_lock_ids; mutex_ids = h.config.mutex_ids; pool_ids = h.config.pool_ids; mailbox_ids = h.config.mailbox_ids; handler_lines = h.config.handler_lines };
+      config = record { processors = h.config.processors; ram = h.config.ram; tasks = h.config.tasks; semaphores = h.config.semaphores; flags = All-push IsFlag s.config.flags p.0 h.config.flags ok.0; queues = h.config.queues; spin_locks = h.config.spin_locks; mutexes = h.config.mutexes; pools = h.config.pools; mailboxes = h.config.mailboxes; cyclics = h.config.cyclics; alarms = h.config.alarms; handlers = h.config.handlers; task_ids = h.config.task_ids; semaphore_ids = h.config.semaphore_ids; flag_ids = keys_stay (λ o. o.id) s.config.flags p.0 ok.1 h.config.flag_ids; queue_ids = h.config.queue_ids; spin_lock_ids = h.config.spin_lock_ids; mutex_ids = h.config.mutex_ids; pool_ids = h.config.pool_ids; mailbox_ids = h.config.mailbox_ids; cyclic_ids = h.config.cyclic_ids; alarm_ids = h.config.alarm_ids; handler_lines = h.config.handler_lines };
       class = h.class;
     })
 added_ok line s t (Queue x) e h =
     let p = one_ok (queue_of line s.config.queues x) (λ made. record s { config = record s.config { queues = s.config.queues ++ made ∷ [] } }) t e in
     let ok = queue_ok line s.config.queues x p.0 p.1 in
     rw (← p.2) (record {
-      config = record { processors = h.config.processors; ram = h.config.ram; tasks = h.config.tasks; semaphores = h.config.semaphores; flags = h.config.flags; queues = All-push IsQueue s.config.queues p.0 h.config.queues ok.0; spin_locks = h.config.spin_locks; mutexes = h.config.mutexes; pools = h.config.pools; mailboxes = h.config.mailboxes; handlers = h.config.handlers; task_ids = h.config.task_ids; semaphore_ids = h.config.semaphore_ids; flag_ids = h.config.flag_ids; queue_ids = keys_stay (λ o. o.id) s.config.queues p.0 ok.1 h.config.queue_ids; spin_lock_ids = h.config.spin_lock_ids; mutex_ids = h.config.mutex_ids; pool_ids = h.config.pool_ids; mailbox_ids = h.config.mailbox_ids; handler_lines = h.config.handler_lines };
+      config = record { processors = h.config.processors; ram = h.config.ram; tasks = h.config.tasks; semaphores = h.config.semaphores; flags = h.config.flags; queues = All-push IsQueue s.config.queues p.0 h.config.queues ok.0; spin_locks = h.config.spin_locks; mutexes = h.config.mutexes; pools = h.config.pools; mailboxes = h.config.mailboxes; cyclics = h.config.cyclics; alarms = h.config.alarms; handlers = h.config.handlers; task_ids = h.config.task_ids; semaphore_ids = h.config.semaphore_ids; flag_ids = h.config.flag_ids; queue_ids = keys_stay (λ o. o.id) s.config.queues p.0 ok.1 h.config.queue_ids; spin_lock_ids = h.config.spin_lock_ids; mutex_ids = h.config.mutex_ids; pool_ids = h.config.pool_ids; mailbox_ids = h.config.mailbox_ids; cyclic_ids = h.config.cyclic_ids; alarm_ids = h.config.alarm_ids; handler_lines = h.config.handler_lines };
       class = h.class;
     })
 added_ok line s t (SpinLock x) e h =
     let p = one_ok (spin_lock_of line s.config.spin_locks x) (λ made. record s { config = record s.config { spin_locks = s.config.spin_locks ++ made ∷ [] } }) t e in
     let ok = spin_lock_ok line s.config.spin_locks x p.0 p.1 in
     rw (← p.2) (record {
-      config = record { processors = h.config.processors; ram = h.config.ram; tasks = h.config.tasks; semaphores = h.config.semaphores; flags = h.config.flags; queues = h.config.queues; spin_locks = All-push IsSpinLock s.config.spin_locks p.0 h.config.spin_locks ok.0; mutexes = h.config.mutexes; pools = h.config.pools; mailboxes = h.config.mailboxes; handlers = h.config.handlers; task_ids = h.config.task_ids; semaphore_ids = h.config.semaphore_ids; flag_ids = h.config.flag_ids; queue_ids = h.config.queue_ids; spin_lock_ids = keys_stay (λ o. o.id) s.config.spin_locks p.0 ok.1 h.config.spin_lock_ids; mutex_ids = h.config.mutex_ids; pool_ids = h.config.pool_ids; mailbox_ids = h.config.mailbox_ids; handler_lines = h.config.handler_lines };
+      config = record { processors = h.config.processors; ram = h.config.ram; tasks = h.config.tasks; semaphores = h.config.semaphores; flags = h.config.flags; queues = h.config.queues; spin_locks = All-push IsSpinLock s.config.spin_locks p.0 h.config.spin_locks ok.0; mutexes = h.config.mutexes; pools = h.config.pools; mailboxes = h.config.mailboxes; cyclics = h.config.cyclics; alarms = h.config.alarms; handlers = h.config.handlers; task_ids = h.config.task_ids; semaphore_ids = h.config.semaphore_ids; flag_ids = h.config.flag_ids; queue_ids = h.config.queue_ids; spin_lock_ids = keys_stay (λ o. o.id) s.config.spin_locks p.0 ok.1 h.config.spin_lock_ids; mutex_ids = h.config.mutex_ids; pool_ids = h.config.pool_ids; mailbox_ids = h.config.mailbox_ids; cyclic_ids = h.config.cyclic_ids; alarm_ids = h.config.alarm_ids; handler_lines = h.config.handler_lines };
       class = h.class;
     })
 added_ok line s t (Mutex x) e h =
     let p = one_ok (mutex_of line s.config.mutexes x) (λ made. record s { config = record s.config { mutexes = s.config.mutexes ++ made ∷ [] } }) t e in
     let ok = mutex_ok line s.config.mutexes x p.0 p.1 in
     rw (← p.2) (record {
-      config = record { processors = h.config.processors; ram = h.config.ram; tasks = h.config.tasks; semaphores = h.config.semaphores; flags = h.config.flags; queues = h.config.queues; spin_locks = h.config.spin_locks; mutexes = All-push IsMutex s.config.mutexes p.0 h.config.mutexes ok.0; pools = h.config.pools; mailboxes = h.config.mailboxes; handlers = h.config.handlers; task_ids = h.config.task_ids; semaphore_ids = h.config.semaphore_ids; flag_ids = h.config.flag_ids; queue_ids = h.config.queue_ids; spin_lock_ids = h.config.spin_lock_ids; mutex_ids = keys_stay (λ o. o.id) s.config.mutexes p.0 ok.1 h.config.mutex_ids; pool_ids = h.config.pool_ids; mailbox_ids = h.config.mailbox_ids; handler_lines = h.config.handler_lines };
+      config = record { processors = h.config.processors; ram = h.config.ram; tasks = h.config.tasks; semaphores = h.config.semaphores; flags = h.config.flags; queues = h.config.queues; spin_locks = h.config.spin_locks; mutexes = All-push IsMutex s.config.mutexes p.0 h.config.mutexes ok.0; pools = h.config.pools; mailboxes = h.config.mailboxes; cyclics = h.config.cyclics; alarms = h.config.alarms; handlers = h.config.handlers; task_ids = h.config.task_ids; semaphore_ids = h.config.semaphore_ids; flag_ids = h.config.flag_ids; queue_ids = h.config.queue_ids; spin_lock_ids = h.config.spin_lock_ids; mutex_ids = keys_stay (λ o. o.id) s.config.mutexes p.0 ok.1 h.config.mutex_ids; pool_ids = h.config.pool_ids; mailbox_ids = h.config.mailbox_ids; cyclic_ids = h.config.cyclic_ids; alarm_ids = h.config.alarm_ids; handler_lines = h.config.handler_lines };
       class = h.class;
     })
 added_ok line s t (Pool x) e h =
     let p = one_ok (pool_of line s.config.ram s.config.pools x) (λ made. record s { config = record s.config { pools = s.config.pools ++ made ∷ [] } }) t e in
     let ok = pool_ok line s.config.ram s.config.pools x p.0 p.1 in
     rw (← p.2) (record {
-      config = record { processors = h.config.processors; ram = h.config.ram; tasks = h.config.tasks; semaphores = h.config.semaphores; flags = h.config.flags; queues = h.config.queues; spin_locks = h.config.spin_locks; mutexes = h.config.mutexes; pools = All-push (IsPool s.config.ram) s.config.pools p.0 h.config.pools ok.0; mailboxes = h.config.mailboxes; handlers = h.config.handlers; task_ids = h.config.task_ids; semaphore_ids = h.config.semaphore_ids; flag_ids = h.config.flag_ids; queue_ids = h.config.queue_ids; spin_lock_ids = h.config.spin_lock_ids; mutex_ids = h.config.mutex_ids; pool_ids = keys_stay (λ o. o.id) s.config.pools p.0 ok.1 h.config.pool_ids; mailbox_ids = h.config.mailbox_ids; handler_lines = h.config.handler_lines };
+      config = record { processors = h.config.processors; ram = h.config.ram; tasks = h.config.tasks; semaphores = h.config.semaphores; flags = h.config.flags; queues = h.config.queues; spin_locks = h.config.spin_locks; mutexes = h.config.mutexes; pools = All-push (IsPool s.config.ram) s.config.pools p.0 h.config.pools ok.0; mailboxes = h.config.mailboxes; cyclics = h.config.cyclics; alarms = h.config.alarms; handlers = h.config.handlers; task_ids = h.config.task_ids; semaphore_ids = h.config.semaphore_ids; flag_ids = h.config.flag_ids; queue_ids = h.config.queue_ids; spin_lock_ids = h.config.spin_lock_ids; mutex_ids = h.config.mutex_ids; pool_ids = keys_stay (λ o. o.id) s.config.pools p.0 ok.1 h.config.pool_ids; mailbox_ids = h.config.mailbox_ids; cyclic_ids = h.config.cyclic_ids; alarm_ids = h.config.alarm_ids; handler_lines = h.config.handler_lines };
       class = h.class;
     })
 added_ok line s t (Mailbox x) e h =
     let p = one_ok (mailbox_of line s.config.mailboxes x) (λ made. record s { config = record s.config { mailboxes = s.config.mailboxes ++ made ∷ [] } }) t e in
     let ok = mailbox_ok line s.config.mailboxes x p.0 p.1 in
     rw (← p.2) (record {
-      config = record { processors = h.config.processors; ram = h.config.ram; tasks = h.config.tasks; semaphores = h.config.semaphores; flags = h.config.flags; queues = h.config.queues; spin_locks = h.config.spin_locks; mutexes = h.config.mutexes; pools = h.config.pools; mailboxes = All-push IsMailbox s.config.mailboxes p.0 h.config.mailboxes ok.0; handlers = h.config.handlers; task_ids = h.config.task_ids; semaphore_ids = h.config.semaphore_ids; flag_ids = h.config.flag_ids; queue_ids = h.config.queue_ids; spin_lock_ids = h.config.spin_lock_ids; mutex_ids = h.config.mutex_ids; pool_ids = h.config.pool_ids; mailbox_ids = keys_stay (λ o. o.id) s.config.mailboxes p.0 ok.1 h.config.mailbox_ids; handler_lines = h.config.handler_lines };
+      config = record { processors = h.config.processors; ram = h.config.ram; tasks = h.config.tasks; semaphores = h.config.semaphores; flags = h.config.flags; queues = h.config.queues; spin_locks = h.config.spin_locks; mutexes = h.config.mutexes; pools = h.config.pools; mailboxes = All-push IsMailbox s.config.mailboxes p.0 h.config.mailboxes ok.0; cyclics = h.config.cyclics; alarms = h.config.alarms; handlers = h.config.handlers; task_ids = h.config.task_ids; semaphore_ids = h.config.semaphore_ids; flag_ids = h.config.flag_ids; queue_ids = h.config.queue_ids; spin_lock_ids = h.config.spin_lock_ids; mutex_ids = h.config.mutex_ids; pool_ids = h.config.pool_ids; mailbox_ids = keys_stay (λ o. o.id) s.config.mailboxes p.0 ok.1 h.config.mailbox_ids; cyclic_ids = h.config.cyclic_ids; alarm_ids = h.config.alarm_ids; handler_lines = h.config.handler_lines };
+      class = h.class;
+    })
+added_ok line s t (Cyclic x) e h =
+    let p = one_ok (cyclic_of line s.config.cyclics (processor_of s.class) x) (λ made. record s { config = record s.config { cyclics = s.config.cyclics ++ made ∷ [] } }) t e in
+    let ok = cyclic_ok line s.config.cyclics s.config.processors (processor_of s.class) x p.0 h.class p.1 in
+    rw (← p.2) (record {
+      config = record { processors = h.config.processors; ram = h.config.ram; tasks = h.config.tasks; semaphores = h.config.semaphores; flags = h.config.flags; queues = h.config.queues; spin_locks = h.config.spin_locks; mutexes = h.config.mutexes; pools = h.config.pools; mailboxes = h.config.mailboxes; cyclics = All-push (IsCyclic s.config.processors) s.config.cyclics p.0 h.config.cyclics ok.0; alarms = h.config.alarms; handlers = h.config.handlers; task_ids = h.config.task_ids; semaphore_ids = h.config.semaphore_ids; flag_ids = h.config.flag_ids; queue_ids = h.config.queue_ids; spin_lock_ids = h.config.spin_lock_ids; mutex_ids = h.config.mutex_ids; pool_ids = h.config.pool_ids; mailbox_ids = h.config.mailbox_ids; cyclic_ids = keys_stay (λ o. o.id) s.config.cyclics p.0 ok.1 h.config.cyclic_ids; alarm_ids = h.config.alarm_ids; handler_lines = h.config.handler_lines };
+      class = h.class;
+    })
+added_ok line s t (Alarm x) e h =
+    let p = one_ok (alarm_of line s.config.alarms (processor_of s.class) x) (λ made. record s { config = record s.config { alarms = s.config.alarms ++ made ∷ [] } }) t e in
+    let ok = alarm_ok line s.config.alarms s.config.processors (processor_of s.class) x p.0 h.class p.1 in
+    rw (← p.2) (record {
+      config = record { processors = h.config.processors; ram = h.config.ram; tasks = h.config.tasks; semaphores = h.config.semaphores; flags = h.config.flags; queues = h.config.queues; spin_locks = h.config.spin_locks; mutexes = h.config.mutexes; pools = h.config.pools; mailboxes = h.config.mailboxes; cyclics = h.config.cyclics; alarms = All-push (IsAlarm s.config.processors) s.config.alarms p.0 h.config.alarms ok.0; handlers = h.config.handlers; task_ids = h.config.task_ids; semaphore_ids = h.config.semaphore_ids; flag_ids = h.config.flag_ids; queue_ids = h.config.queue_ids; spin_lock_ids = h.config.spin_lock_ids; mutex_ids = h.config.mutex_ids; pool_ids = h.config.pool_ids; mailbox_ids = h.config.mailbox_ids; cyclic_ids = h.config.cyclic_ids; alarm_ids = keys_stay (λ o. o.id) s.config.alarms p.0 ok.1 h.config.alarm_ids; handler_lines = h.config.handler_lines };
       class = h.class;
     })
 added_ok line s t (Handler x) e h =
     let p = one_ok (handler_of line s.config.handlers (processor_of s.class) x) (λ made. record s { config = record s.config { handlers = s.config.handlers ++ made ∷ [] } }) t e in
     let ok = handler_ok line s.config.handlers s.config.processors (processor_of s.class) x p.0 h.class p.1 in
     rw (← p.2) (record {
-      config = record { processors = h.config.processors; ram = h.config.ram; tasks = h.config.tasks; semaphores = h.config.semaphores; flags = h.config.flags; queues = h.config.queues; spin_locks = h.config.spin_locks; mutexes = h.config.mutexes; pools = h.config.pools; mailboxes = h.config.mailboxes; handlers = All-push (IsHandler s.config.processors) s.config.handlers p.0 h.config.handlers ok.0; task_ids = h.config.task_ids; semaphore_ids = h.config.semaphore_ids; flag_ids = h.config.flag_ids; queue_ids = h.config.queue_ids; spin_lock_ids = h.config.spin_lock_ids; mutex_ids = h.config.mutex_ids; pool_ids = h.config.pool_ids; mailbox_ids = h.config.mailbox_ids; handler_lines = keys_stay (λ o. o.line) s.config.handlers p.0 ok.1 h.config.handler_lines };
+      config = record { processors = h.config.processors; ram = h.config.ram; tasks = h.config.tasks; semaphores = h.config.semaphores; flags = h.config.flags; queues = h.config.queues; spin_locks = h.config.spin_locks; mutexes = h.config.mutexes; pools = h.config.pools; mailboxes = h.config.mailboxes; cyclics = h.config.cyclics; alarms = h.config.alarms; handlers = All-push (IsHandler s.config.processors) s.config.handlers p.0 h.config.handlers ok.0; task_ids = h.config.task_ids; semaphore_ids = h.config.semaphore_ids; flag_ids = h.config.flag_ids; queue_ids = h.config.queue_ids; spin_lock_ids = h.config.spin_lock_ids; mutex_ids = h.config.mutex_ids; pool_ids = h.config.pool_ids; mailbox_ids = h.config.mailbox_ids; cyclic_ids = h.config.cyclic_ids; alarm_ids = h.config.alarm_ids; handler_lines = keys_stay (λ o. o.line) s.config.handlers p.0 ok.1 h.config.handler_lines };
       class = h.class;
     })
 
@@ -365,7 +408,7 @@ board_ok : (standard : Bool) (line processors ram : ℕ) (c : Configuration) →
 unfolding board_of
 board_ok standard line processors ram c e =
     let p = two_ok (within 1 8 (BadProcessor line) processors) (refused (not (is_ram_size ram)) (BadCount line))
-    (λ count sized. record { standard = standard; processors = count; ram = ram; tasks = []; semaphores = []; flags = []; queues = []; spin_locks = []; mutexes = []; pools = []; mailboxes = []; handlers = [] }) c e in
+    (λ count sized. record { standard = standard; processors = count; ram = ram; tasks = []; semaphores = []; flags = []; queues = []; spin_locks = []; mutexes = []; pools = []; mailboxes = []; cyclics = []; alarms = []; handlers = [] }) c e in
     let sized = not-false (is_ram_size ram) (refused_ok (not (is_ram_size ram)) (BadCount line) p.1 p.3) in
     rw (← p.4) (record {
       processors = (within_ok 1 8 (BadProcessor line) processors p.0 p.2).1;
@@ -378,6 +421,8 @@ board_ok standard line processors ram c e =
       mutexes = λ k d lt. absurd (omega arith);
       pools = λ k d lt. absurd (omega arith);
       mailboxes = λ k d lt. absurd (omega arith);
+      cyclics = λ k d lt. absurd (omega arith);
+      alarms = λ k d lt. absurd (omega arith);
       handlers = λ k d lt. absurd (omega arith);
       task_ids = λ i j d lt below. absurd (omega arith);
       semaphore_ids = λ i j d lt below. absurd (omega arith);
@@ -387,6 +432,8 @@ board_ok standard line processors ram c e =
       mutex_ids = λ i j d lt below. absurd (omega arith);
       pool_ids = λ i j d lt below. absurd (omega arith);
       mailbox_ids = λ i j d lt below. absurd (omega arith);
+      cyclic_ids = λ i j d lt below. absurd (omega arith);
+      alarm_ids = λ i j d lt below. absurd (omega arith);
       handler_lines = λ i j d lt below. absurd (omega arith);
     })
 

@@ -11,6 +11,8 @@ use Rattle.brd_config.specs.declared.objects.Protocol.{Protocol}
 use Rattle.brd_config.specs.declared.objects.Protocol.TheVariants as protocol
 use Rattle.brd_config.specs.declared.objects.PoolConfig.{PoolConfig}
 use Rattle.brd_config.specs.declared.objects.MailboxConfig.{MailboxConfig}
+use Rattle.brd_config.specs.declared.objects.CyclicConfig.{CyclicConfig}
+use Rattle.brd_config.specs.declared.objects.AlarmConfig.{AlarmConfig}
 use Rattle.brd_config.specs.declared.objects.HandlerConfig.{HandlerConfig}
 
 -- whether the kernel has the profile PROFILE(STANDARD), and the objects of each kind in the order of their statements
@@ -26,6 +28,8 @@ pub record Configuration : Type 0 where
   pub mutexes : List MutexConfig
   pub pools : List PoolConfig
   pub mailboxes : List MailboxConfig
+  pub cyclics : List CyclicConfig
+  pub alarms : List AlarmConfig
   pub handlers : List HandlerConfig
 
 -- from low to high
@@ -81,6 +85,21 @@ pub record IsMailbox (m : MailboxConfig) : Type 0 where
   pub attributes : m.attributes.0 ≤ 3
   pub priorities : IsWithin 1 16 m.priorities
 
+-- how many ticks a cyclic handler may have as its period or its phase at most
+abbrev pub most_ticks : ℕ
+most_ticks = 2147483647
+
+pub record IsCyclic (processors : ℕ) (c : CyclicConfig) : Type 0 where
+  pub id : IsWithin 1 64 c.id
+  pub processor : IsWithin 1 processors c.processor
+  pub attributes : c.attributes.0 ≤ 7
+  pub period : IsWithin 1 most_ticks c.period
+  pub phase : c.phase ≤ most_ticks
+
+pub record IsAlarm (processors : ℕ) (a : AlarmConfig) : Type 0 where
+  pub id : IsWithin 1 64 a.id
+  pub processor : IsWithin 1 processors a.processor
+
 pub record IsHandler (processors : ℕ) (h : HandlerConfig) : Type 0 where
   pub line : h.line ≤ 31
   pub processor : IsWithin 1 processors h.processor
@@ -96,6 +115,8 @@ pub record IsConfiguration (c : Configuration) : Type 0 where
   pub mutexes : All IsMutex c.mutexes
   pub pools : All (IsPool c.ram) c.pools
   pub mailboxes : All IsMailbox c.mailboxes
+  pub cyclics : All (IsCyclic c.processors) c.cyclics
+  pub alarms : All (IsAlarm c.processors) c.alarms
   pub handlers : All (IsHandler c.processors) c.handlers
   pub task_ids : AllPairs (λ s t. s.id ≢ t.id) c.tasks
   pub semaphore_ids : AllPairs (λ s t. s.id ≢ t.id) c.semaphores
@@ -105,4 +126,6 @@ pub record IsConfiguration (c : Configuration) : Type 0 where
   pub mutex_ids : AllPairs (λ s t. s.id ≢ t.id) c.mutexes
   pub pool_ids : AllPairs (λ s t. s.id ≢ t.id) c.pools
   pub mailbox_ids : AllPairs (λ s t. s.id ≢ t.id) c.mailboxes
+  pub cyclic_ids : AllPairs (λ s t. s.id ≢ t.id) c.cyclics
+  pub alarm_ids : AllPairs (λ s t. s.id ≢ t.id) c.alarms
   pub handler_lines : AllPairs (λ s t. s.line ≢ t.line) c.handlers

@@ -17,13 +17,15 @@ use Rattle.brd_config.specs.declared.objects.SpinLockConfig.{SpinLockConfig}
 use Rattle.brd_config.specs.declared.objects.MutexConfig.{MutexConfig}
 use Rattle.brd_config.specs.declared.objects.PoolConfig.{PoolConfig}
 use Rattle.brd_config.specs.declared.objects.MailboxConfig.{MailboxConfig}
+use Rattle.brd_config.specs.declared.objects.CyclicConfig.{CyclicConfig}
+use Rattle.brd_config.specs.declared.objects.AlarmConfig.{AlarmConfig}
 use Rattle.brd_config.specs.declared.objects.HandlerConfig.{HandlerConfig}
 use Rattle.brd_config.specs.declared.statement.AttributeNames.{AttributeNames}
 use Rattle.brd_config.specs.declared.statement.AttributeNames.TheVariants as named
 use Rattle.brd_config.specs.declared.statement.Statement.{Statement}
 use Rattle.brd_config.specs.declared.statement.Statement.TheVariants.{Board, Class, ClassEnd, Task, Semaphore, Flag}
 use Rattle.brd_config.specs.declared.statement.Statement.TheVariants.{Queue, SpinLock, Mutex, Pool, Mailbox}
-use Rattle.brd_config.specs.declared.statement.Statement.TheVariants.{Handler}
+use Rattle.brd_config.specs.declared.statement.Statement.TheVariants.{Cyclic, Alarm, Handler}
 use Rattle.brd_config.specs.declared.statement.TaskStatement.{TaskStatement}
 use Rattle.brd_config.specs.declared.statement.SemaphoreStatement.{SemaphoreStatement}
 use Rattle.brd_config.specs.declared.statement.FlagStatement.{FlagStatement}
@@ -32,6 +34,8 @@ use Rattle.brd_config.specs.declared.statement.SpinLockStatement.{SpinLockStatem
 use Rattle.brd_config.specs.declared.statement.MutexStatement.{MutexStatement}
 use Rattle.brd_config.specs.declared.statement.PoolStatement.{PoolStatement}
 use Rattle.brd_config.specs.declared.statement.MailboxStatement.{MailboxStatement}
+use Rattle.brd_config.specs.declared.statement.CyclicStatement.{CyclicStatement}
+use Rattle.brd_config.specs.declared.statement.AlarmStatement.{AlarmStatement}
 use Rattle.brd_config.specs.declared.statement.HandlerStatement.{HandlerStatement}
 use Rattle.brd_config.specs.Reading.{attribute_of, class_of, protocol_of, operand_of, stack_of, is_area}
 use Rattle.brd_config.specs.Configuration.{Configuration, IsWithin, IsConfiguration}
@@ -112,6 +116,11 @@ form (Pool p) =
 form (Mailbox m) =
     Exactly (codes "CRE_MBX") ∷ Sign 40 ∷ Numeral m.id ∷ Sign 44 ∷ Sign 123 ∷ Attributes named.Mailbox m.attributes
     ∷ Sign 44 ∷ Numeral m.priorities ∷ Sign 44 ∷ Exactly (codes "NULL") ∷ Sign 125 ∷ Sign 41 ∷ Sign 59 ∷ []
+form (Cyclic c) =
+    Exactly (codes "CRE_CYC") ∷ Sign 40 ∷ Numeral c.id ∷ Sign 44 ∷ Sign 123 ∷ Attributes named.Cyclic c.attributes
+    ∷ Sign 44 ∷ Value c.exinf ∷ Sign 44 ∷ Value c.address ∷ Sign 44 ∷ Numeral c.period ∷ Sign 44 ∷ Numeral c.phase
+    ∷ Sign 125 ∷ Sign 41 ∷ Sign 59 ∷ []
+form (Alarm a) = object (codes "CRE_ALM") a.id a.attributes (Value a.exinf ∷ Sign 44 ∷ Value a.address ∷ [])
 form (Handler h) = object (codes "DEF_INH") h.line h.attributes (Value h.address ∷ [])
 
 -- what stands before all statements where the profile is asked for
@@ -165,6 +174,21 @@ pool_said p =
 abbrev pub mailbox_said : MailboxStatement → MailboxConfig
 mailbox_said m = record { id = m.id; attributes = record { 0 = m.attributes }; priorities = m.priorities }
 
+abbrev pub cyclic_said : ℕ → CyclicStatement → CyclicConfig
+cyclic_said processor c =
+    record {
+      id = c.id;
+      processor = processor;
+      attributes = record { 0 = c.attributes };
+      exinf = c.exinf;
+      address = c.address;
+      period = c.period;
+      phase = c.phase;
+    }
+
+abbrev pub alarm_said : ℕ → AlarmStatement → AlarmConfig
+alarm_said processor a = record { id = a.id; processor = processor; exinf = a.exinf; address = a.address }
+
 abbrev pub handler_said : ℕ → HandlerStatement → HandlerConfig
 handler_said processor h = record { line = h.line; processor = processor; address = h.address }
 
@@ -182,6 +206,8 @@ tasks_of class (SpinLock s ∷ ss) = tasks_of class ss
 tasks_of class (Mutex s ∷ ss) = tasks_of class ss
 tasks_of class (Pool p ∷ ss) = tasks_of class ss
 tasks_of class (Mailbox m ∷ ss) = tasks_of class ss
+tasks_of class (Cyclic c ∷ ss) = tasks_of class ss
+tasks_of class (Alarm a ∷ ss) = tasks_of class ss
 tasks_of class (Handler h ∷ ss) = tasks_of class ss
 
 abbrev pub semaphores_of : List Statement → List SemaphoreConfig
@@ -197,6 +223,8 @@ semaphores_of (SpinLock s ∷ ss) = semaphores_of ss
 semaphores_of (Mutex s ∷ ss) = semaphores_of ss
 semaphores_of (Pool p ∷ ss) = semaphores_of ss
 semaphores_of (Mailbox m ∷ ss) = semaphores_of ss
+semaphores_of (Cyclic c ∷ ss) = semaphores_of ss
+semaphores_of (Alarm a ∷ ss) = semaphores_of ss
 semaphores_of (Handler h ∷ ss) = semaphores_of ss
 
 abbrev pub flags_of : List Statement → List FlagConfig
@@ -212,6 +240,8 @@ flags_of (SpinLock s ∷ ss) = flags_of ss
 flags_of (Mutex s ∷ ss) = flags_of ss
 flags_of (Pool p ∷ ss) = flags_of ss
 flags_of (Mailbox m ∷ ss) = flags_of ss
+flags_of (Cyclic c ∷ ss) = flags_of ss
+flags_of (Alarm a ∷ ss) = flags_of ss
 flags_of (Handler h ∷ ss) = flags_of ss
 
 abbrev pub queues_of : List Statement → List QueueConfig
@@ -227,6 +257,8 @@ queues_of (SpinLock s ∷ ss) = queues_of ss
 queues_of (Mutex s ∷ ss) = queues_of ss
 queues_of (Pool p ∷ ss) = queues_of ss
 queues_of (Mailbox m ∷ ss) = queues_of ss
+queues_of (Cyclic c ∷ ss) = queues_of ss
+queues_of (Alarm a ∷ ss) = queues_of ss
 queues_of (Handler h ∷ ss) = queues_of ss
 
 abbrev pub spin_locks_of : List Statement → List SpinLockConfig
@@ -242,6 +274,8 @@ spin_locks_of (SpinLock s ∷ ss) = spin_lock_said s ∷ spin_locks_of ss
 spin_locks_of (Mutex s ∷ ss) = spin_locks_of ss
 spin_locks_of (Pool p ∷ ss) = spin_locks_of ss
 spin_locks_of (Mailbox m ∷ ss) = spin_locks_of ss
+spin_locks_of (Cyclic c ∷ ss) = spin_locks_of ss
+spin_locks_of (Alarm a ∷ ss) = spin_locks_of ss
 spin_locks_of (Handler h ∷ ss) = spin_locks_of ss
 
 abbrev pub mutexes_of : List Statement → List MutexConfig
@@ -257,6 +291,8 @@ mutexes_of (SpinLock s ∷ ss) = mutexes_of ss
 mutexes_of (Mutex s ∷ ss) = mutex_said s ∷ mutexes_of ss
 mutexes_of (Pool p ∷ ss) = mutexes_of ss
 mutexes_of (Mailbox m ∷ ss) = mutexes_of ss
+mutexes_of (Cyclic c ∷ ss) = mutexes_of ss
+mutexes_of (Alarm a ∷ ss) = mutexes_of ss
 mutexes_of (Handler h ∷ ss) = mutexes_of ss
 
 abbrev pub pools_of : List Statement → List PoolConfig
@@ -272,6 +308,8 @@ pools_of (SpinLock s ∷ ss) = pools_of ss
 pools_of (Mutex s ∷ ss) = pools_of ss
 pools_of (Pool p ∷ ss) = pool_said p ∷ pools_of ss
 pools_of (Mailbox m ∷ ss) = pools_of ss
+pools_of (Cyclic c ∷ ss) = pools_of ss
+pools_of (Alarm a ∷ ss) = pools_of ss
 pools_of (Handler h ∷ ss) = pools_of ss
 
 abbrev pub mailboxes_of : List Statement → List MailboxConfig
@@ -287,7 +325,43 @@ mailboxes_of (SpinLock s ∷ ss) = mailboxes_of ss
 mailboxes_of (Mutex s ∷ ss) = mailboxes_of ss
 mailboxes_of (Pool p ∷ ss) = mailboxes_of ss
 mailboxes_of (Mailbox m ∷ ss) = mailbox_said m ∷ mailboxes_of ss
+mailboxes_of (Cyclic c ∷ ss) = mailboxes_of ss
+mailboxes_of (Alarm a ∷ ss) = mailboxes_of ss
 mailboxes_of (Handler h ∷ ss) = mailboxes_of ss
+
+abbrev pub cyclics_of : Option ℕ → List Statement → List CyclicConfig
+cyclics_of class [] = []
+cyclics_of class (Board processors ram ∷ ss) = cyclics_of class ss
+cyclics_of class (Class n ∷ ss) = cyclics_of (Some n) ss
+cyclics_of class (ClassEnd ∷ ss) = cyclics_of None ss
+cyclics_of class (Task t ∷ ss) = cyclics_of class ss
+cyclics_of class (Semaphore s ∷ ss) = cyclics_of class ss
+cyclics_of class (Flag f ∷ ss) = cyclics_of class ss
+cyclics_of class (Queue q ∷ ss) = cyclics_of class ss
+cyclics_of class (SpinLock s ∷ ss) = cyclics_of class ss
+cyclics_of class (Mutex s ∷ ss) = cyclics_of class ss
+cyclics_of class (Pool p ∷ ss) = cyclics_of class ss
+cyclics_of class (Mailbox m ∷ ss) = cyclics_of class ss
+cyclics_of class (Cyclic c ∷ ss) = cyclic_said (processor_of class) c ∷ cyclics_of class ss
+cyclics_of class (Alarm a ∷ ss) = cyclics_of class ss
+cyclics_of class (Handler h ∷ ss) = cyclics_of class ss
+
+abbrev pub alarms_of : Option ℕ → List Statement → List AlarmConfig
+alarms_of class [] = []
+alarms_of class (Board processors ram ∷ ss) = alarms_of class ss
+alarms_of class (Class n ∷ ss) = alarms_of (Some n) ss
+alarms_of class (ClassEnd ∷ ss) = alarms_of None ss
+alarms_of class (Task t ∷ ss) = alarms_of class ss
+alarms_of class (Semaphore s ∷ ss) = alarms_of class ss
+alarms_of class (Flag f ∷ ss) = alarms_of class ss
+alarms_of class (Queue q ∷ ss) = alarms_of class ss
+alarms_of class (SpinLock s ∷ ss) = alarms_of class ss
+alarms_of class (Mutex s ∷ ss) = alarms_of class ss
+alarms_of class (Pool p ∷ ss) = alarms_of class ss
+alarms_of class (Mailbox m ∷ ss) = alarms_of class ss
+alarms_of class (Cyclic c ∷ ss) = alarms_of class ss
+alarms_of class (Alarm a ∷ ss) = alarm_said (processor_of class) a ∷ alarms_of class ss
+alarms_of class (Handler h ∷ ss) = alarms_of class ss
 
 abbrev pub handlers_of : Option ℕ → List Statement → List HandlerConfig
 handlers_of class [] = []
@@ -302,6 +376,8 @@ handlers_of class (SpinLock s ∷ ss) = handlers_of class ss
 handlers_of class (Mutex s ∷ ss) = handlers_of class ss
 handlers_of class (Pool p ∷ ss) = handlers_of class ss
 handlers_of class (Mailbox m ∷ ss) = handlers_of class ss
+handlers_of class (Cyclic c ∷ ss) = handlers_of class ss
+handlers_of class (Alarm a ∷ ss) = handlers_of class ss
 handlers_of class (Handler h ∷ ss) = handler_said (processor_of class) h ∷ handlers_of class ss
 
 -- the configuration of a board and the statements after it, whatever their values
@@ -319,6 +395,8 @@ said standard processors ram ss =
       mutexes = mutexes_of ss;
       pools = pools_of ss;
       mailboxes = mailboxes_of ss;
+      cyclics = cyclics_of None ss;
+      alarms = alarms_of None ss;
       handlers = handlers_of None ss;
     }
 
@@ -331,8 +409,9 @@ IsInside None = ⊥
 IsInside (Some n) = Unit {0}
 
 -- Statements after BOARD, of which the first stands in this class: each class names a processor of the board and is
--- closed again, no class is in a class, BOARD does not come again, a spin lock has no attribute bits, a handler none
--- but the lowest, and a mutex one of four; mutexes, memory pools and mailboxes stand in the profile alone.
+-- closed again, no class is in a class, BOARD does not come again, a spin lock has no attribute bits, a handler and an
+-- alarm handler none but the lowest, and a mutex one of four; mutexes, memory pools, mailboxes, cyclic handlers and
+-- alarm handlers stand in the profile alone.
 -- (The other limits are those of the configuration.)
 abbrev pub AreNested : Bool → ℕ → Option ℕ → List Statement → Type 0
 AreNested standard processors class [] = IsOutside class
@@ -349,6 +428,9 @@ AreNested standard processors class (Mutex m ∷ ss) =
     (standard ≡ true) × (m.protocol ≤ 3) × AreNested standard processors class ss
 AreNested standard processors class (Pool p ∷ ss) = (standard ≡ true) × AreNested standard processors class ss
 AreNested standard processors class (Mailbox m ∷ ss) = (standard ≡ true) × AreNested standard processors class ss
+AreNested standard processors class (Cyclic c ∷ ss) = (standard ≡ true) × AreNested standard processors class ss
+AreNested standard processors class (Alarm a ∷ ss) =
+    (standard ≡ true) × (a.attributes ≤ 1) × AreNested standard processors class ss
 AreNested standard processors class (Handler h ∷ ss) = (h.attributes ≤ 1) × AreNested standard processors class ss
 
 -- Statements that are valid: well nested, and what they say is a configuration.

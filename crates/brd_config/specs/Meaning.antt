@@ -22,6 +22,8 @@ use Rattle.brd_config.specs.declared.objects.SpinLockConfig.{SpinLockConfig}
 use Rattle.brd_config.specs.declared.objects.MutexConfig.{MutexConfig}
 use Rattle.brd_config.specs.declared.objects.PoolConfig.{PoolConfig}
 use Rattle.brd_config.specs.declared.objects.MailboxConfig.{MailboxConfig}
+use Rattle.brd_config.specs.declared.objects.CyclicConfig.{CyclicConfig}
+use Rattle.brd_config.specs.declared.objects.AlarmConfig.{AlarmConfig}
 use Rattle.brd_config.specs.declared.objects.HandlerConfig.{HandlerConfig}
 use Rattle.brd_config.specs.declared.statement.TaskStatement.{TaskStatement}
 use Rattle.brd_config.specs.declared.statement.SemaphoreStatement.{SemaphoreStatement}
@@ -31,15 +33,17 @@ use Rattle.brd_config.specs.declared.statement.SpinLockStatement.{SpinLockStatem
 use Rattle.brd_config.specs.declared.statement.MutexStatement.{MutexStatement}
 use Rattle.brd_config.specs.declared.statement.PoolStatement.{PoolStatement}
 use Rattle.brd_config.specs.declared.statement.MailboxStatement.{MailboxStatement}
+use Rattle.brd_config.specs.declared.statement.CyclicStatement.{CyclicStatement}
+use Rattle.brd_config.specs.declared.statement.AlarmStatement.{AlarmStatement}
 use Rattle.brd_config.specs.declared.statement.HandlerStatement.{HandlerStatement}
 use Rattle.brd_config.specs.declared.statement.Statement.{Statement}
 use Rattle.brd_config.specs.declared.statement.Statement.TheVariants.{Board, Class, ClassEnd, Task, Semaphore, Flag}
 use Rattle.brd_config.specs.declared.statement.Statement.TheVariants.{Queue, SpinLock, Mutex, Pool, Mailbox}
-use Rattle.brd_config.specs.declared.statement.Statement.TheVariants.{Handler}
+use Rattle.brd_config.specs.declared.statement.Statement.TheVariants.{Cyclic, Alarm, Handler}
 use Rattle.brd_config.specs.Statements.{board_at, statement_at}
 use Rattle.brd_config.specs.declared.objects.Protocol.{Protocol}
 use Rattle.brd_config.specs.declared.objects.Protocol.TheVariants as protocol
-use Rattle.brd_config.specs.Configuration.{Configuration, least_ceiling}
+use Rattle.brd_config.specs.Configuration.{Configuration, least_ceiling, most_ticks}
 
 -- ---- tests of values
 
@@ -159,6 +163,32 @@ mailbox_of line mailboxes m = do
   priorities ← within 1 16 (BadPriority line) m.priorities
   Ok (record { id = id; attributes = record { 0 = attributes }; priorities = priorities })
 
+-- A cyclic handler on this processor.
+unfoldable pub cyclic_of : ℕ → List CyclicConfig → ℕ → CyclicStatement → Result CyclicConfig ConfigFault
+cyclic_of line cyclics processor c = do
+  id ← within 1 64 (BadId line) c.id
+  new ← refused (list_any (λ other. other.id == c.id) cyclics) (Duplicate line)
+  attributes ← only_bits 7 (BadAttribute line) c.attributes
+  period ← within 1 most_ticks (BadCount line) c.period
+  phase ← within 0 most_ticks (BadCount line) c.phase
+  Ok (record {
+    id = id;
+    processor = processor;
+    attributes = record { 0 = attributes };
+    exinf = c.exinf;
+    address = c.address;
+    period = period;
+    phase = phase;
+  })
+
+-- An alarm handler on this processor.
+unfoldable pub alarm_of : ℕ → List AlarmConfig → ℕ → AlarmStatement → Result AlarmConfig ConfigFault
+alarm_of line alarms processor a = do
+  id ← within 1 64 (BadId line) a.id
+  new ← refused (list_any (λ other. other.id == a.id) alarms) (Duplicate line)
+  attributes ← only_bits 1 (BadAttribute line) a.attributes
+  Ok (record { id = id; processor = processor; exinf = a.exinf; address = a.address })
+
 -- A handler on this processor. Lines are the board's, so each has one handler.
 unfoldable pub handler_of : ℕ → List HandlerConfig → ℕ → HandlerStatement → Result HandlerConfig ConfigFault
 handler_of line handlers processor h = do
@@ -184,6 +214,8 @@ board_of standard line processors ram = do
     mutexes = [];
     pools = [];
     mailboxes = [];
+    cyclics = [];
+    alarms = [];
     handlers = [];
   })
 
@@ -220,6 +252,12 @@ added line s (Pool x) = do
 added line s (Mailbox x) = do
   mailbox ← mailbox_of line s.config.mailboxes x
   Ok (record s { config = record s.config { mailboxes = s.config.mailboxes ++ mailbox ∷ [] } })
+added line s (Cyclic x) = do
+  cyclic ← cyclic_of line s.config.cyclics (processor_of s.class) x
+  Ok (record s { config = record s.config { cyclics = s.config.cyclics ++ cyclic ∷ [] } })
+added line s (Alarm x) = do
+  alarm ← alarm_of line s.config.alarms (processor_of s.class) x
+  Ok (record s { config = record s.config { alarms = s.config.alarms ++ alarm ∷ [] } })
 added line s (Handler x) = do
   handler ← handler_of line s.config.handlers (processor_of s.class) x
   Ok (record s { config = record s.config { handlers = s.config.handlers ++ handler ∷ [] } })

@@ -58,10 +58,23 @@ mailbox_attribute_names =
 unfoldable pub mailbox_attribute_named : List ℕ → Option ℕ
 mailbox_attribute_named run = named_in mailbox_attribute_names run
 
+-- the attribute names that a cyclic handler has, each with its bits
+abbrev pub cyclic_attribute_names : List (List ℕ × ℕ)
+cyclic_attribute_names =
+    (codes "TA_NULL", 0) ∷
+    (codes "TA_HLNG", 0) ∷
+    (codes "TA_ASM", 1) ∷
+    (codes "TA_STA", 2) ∷
+    (codes "TA_PHS", 4) ∷ []
+
+unfoldable pub cyclic_attribute_named : List ℕ → Option ℕ
+cyclic_attribute_named run = named_in cyclic_attribute_names run
+
 -- what a name stands for, among these
 abbrev pub named_among : AttributeNames → List ℕ → Option ℕ
 named_among named.Common run = attribute_named run
 named_among named.Mailbox run = mailbox_attribute_named run
+named_among named.Cyclic run = cyclic_attribute_named run
 
 unfoldable pub attribute_of : AttributeNames → List ℕ → Option ℕ
 attribute_of names run = named_or_number (named_among names run) run

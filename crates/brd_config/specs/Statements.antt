@@ -12,7 +12,7 @@ use Rattle.brd_config.specs.declared.statement.Keyword.TheVariants as keywords
 use Rattle.brd_config.specs.declared.statement.Statement.{Statement}
 use Rattle.brd_config.specs.declared.statement.Statement.TheVariants.{Board, Class, ClassEnd, Task, Semaphore, Flag}
 use Rattle.brd_config.specs.declared.statement.Statement.TheVariants.{Queue, SpinLock, Mutex, Pool, Mailbox}
-use Rattle.brd_config.specs.declared.statement.Statement.TheVariants.{Handler}
+use Rattle.brd_config.specs.declared.statement.Statement.TheVariants.{Cyclic, Alarm, Handler}
 use Rattle.brd_config.specs.declared.objects.Stack.{Stack}
 use Rattle.brd_config.specs.Reading.{named_in, number_at, listed_number_at, listed_operand_at, mark_at, operand_at}
 use Rattle.brd_config.specs.Reading.{stack_at, area_at, null_at, class_number_at, protocol_at, head_at, tail_at}
@@ -29,6 +29,8 @@ keyword_names =
     (codes "CRE_MTX", keywords.Mutex) ∷
     (codes "CRE_MPF", keywords.Pool) ∷
     (codes "CRE_MBX", keywords.Mailbox) ∷
+    (codes "CRE_CYC", keywords.Cyclic) ∷
+    (codes "CRE_ALM", keywords.Alarm) ∷
     (codes "DEF_INH", keywords.Handler) ∷ []
 
 unfoldable pub keyword_of : List ℕ → Option Keyword
@@ -151,6 +153,37 @@ mailbox_at t = do
   ended ← tail_at null
   Ok (Mailbox (record { id = head.0; attributes = head.1; priorities = priorities.0 }), ended)
 
+-- CRE_CYC(cycid, {cycatr, exinf, cychdr, cyctim, cycphs});
+unfoldable pub cyclic_at : Text → Result (Statement × Text) ConfigFault
+cyclic_at t = do
+  head ← head_at named.Cyclic 44 t
+  exinf ← listed_operand_at head.2
+  address ← listed_operand_at exinf.1
+  period ← listed_number_at address.1
+  phase ← number_at period.1
+  ended ← tail_at phase.1
+  Ok (
+    Cyclic
+        (record {
+          id = head.0;
+          attributes = head.1;
+          exinf = exinf.0;
+          address = address.0;
+          period = period.0;
+          phase = phase.0;
+        }),
+    ended,
+  )
+
+-- CRE_ALM(almid, {almatr, exinf, almhdr});
+unfoldable pub alarm_at : Text → Result (Statement × Text) ConfigFault
+alarm_at t = do
+  head ← head_at named.Common 44 t
+  exinf ← listed_operand_at head.2
+  address ← operand_at exinf.1
+  ended ← tail_at address.1
+  Ok (Alarm (record { id = head.0; attributes = head.1; exinf = exinf.0; address = address.0 }), ended)
+
 -- DEF_INH(inhno, {inhatr, inthdr});
 unfoldable pub handler_at : Text → Result (Statement × Text) ConfigFault
 handler_at t = do
@@ -160,7 +193,7 @@ handler_at t = do
   Ok (Handler (record { line = head.0; attributes = head.1; address = address.0 }), ended)
 
 -- What follows a keyword on this line. A class has no class in it, and without the profile there are no mutexes, no
--- memory pools and no mailboxes.
+-- memory pools, no mailboxes, no cyclic handlers and no alarm handlers.
 unfoldable pub behind_keyword : Bool → Bool → ℕ → Keyword → Text → Result (Statement × Text) ConfigFault
 behind_keyword standard in_class line keywords.Board t = do
   board ← board_at t
@@ -174,6 +207,8 @@ behind_keyword standard in_class line keywords.SpinLock t = spin_lock_at t
 behind_keyword standard in_class line keywords.Mutex t = if standard then mutex_at t else Err (Syntax line)
 behind_keyword standard in_class line keywords.Pool t = if standard then pool_at t else Err (Syntax line)
 behind_keyword standard in_class line keywords.Mailbox t = if standard then mailbox_at t else Err (Syntax line)
+behind_keyword standard in_class line keywords.Cyclic t = if standard then cyclic_at t else Err (Syntax line)
+behind_keyword standard in_class line keywords.Alarm t = if standard then alarm_at t else Err (Syntax line)
 behind_keyword standard in_class line keywords.Handler t = handler_at t
 
 -- What the first token of a statement begins, before rest. A closing brace ends a class.

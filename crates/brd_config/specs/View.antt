@@ -18,6 +18,8 @@ view c =
       mutexes = c.mutexes;
       pools = c.pools;
       mailboxes = c.mailboxes;
+      cyclics = c.cyclics;
+      alarms = c.alarms;
       handlers = c.handlers;
     }
 
@@ -35,6 +37,8 @@ drafted d =
       mutexes = d.mutexes;
       pools = d.pools;
       mailboxes = d.mailboxes;
+      cyclics = d.cyclics;
+      alarms = d.alarms;
       handlers = d.handlers;
     }
 

@@ -209,3 +209,40 @@ impl Flags for MailboxAttributes {
         MailboxAttributes(bits)
     }
 }
+
+/// Attributes of a cyclic handler.
+#[derive(Clone, Copy, PartialEq, Eq)]
+pub struct CyclicAttributes(u32);
+
+bitflag_items! {
+    impl CyclicAttributes: u32 {
+        /// Written in assembly language; without effect.
+        const TA_ASM = 1;
+        /// It works from boot on.
+        const TA_STA = 2;
+        /// Its times are those that are counted from boot, whenever it is started.
+        const TA_PHS = 4;
+    }
+}
+
+impl Flags for CyclicAttributes {
+    type Bits = u32;
+
+    ghost exact = { ⊤ };
+
+    ghost table = { (codes "TA_ASM", 1) ∷ (codes "TA_STA", 2) ∷ (codes "TA_PHS", 4) ∷ [] };
+
+    ghost set_of = { λ a. a.0 };
+
+    fn flags<'a>() -> &'a [Flag<CyclicAttributes>] {
+        CyclicAttributes::FLAGS
+    }
+
+    fn bits(&self) -> u32 {
+        self.0
+    }
+
+    fn from_bits_retain(bits: u32) -> CyclicAttributes {
+        CyclicAttributes(bits)
+    }
+}

@@ -7,19 +7,23 @@ ghost use Rattle.brd_config.specs.Configuration as configuration;
 ghost use Rattle.brd_config.specs.Meaning as meaning;
 
 use crate::attributes::{
-    FlagAttributes, MailboxAttributes, PoolAttributes, QueueAttributes, SemaphoreAttributes,
-    TaskAttributes,
+    CyclicAttributes, FlagAttributes, MailboxAttributes, PoolAttributes, QueueAttributes,
+    SemaphoreAttributes, TaskAttributes,
 };
 use crate::fault::ConfigFault;
 use crate::objects::{
-    FlagConfig, HandlerConfig, MailboxConfig, MutexConfig, PoolConfig, Protocol, QueueConfig,
-    SemaphoreConfig, SpinLockConfig, TaskConfig,
+    AlarmConfig, CyclicConfig, FlagConfig, HandlerConfig, MailboxConfig, MutexConfig, PoolConfig,
+    Protocol, QueueConfig, SemaphoreConfig, SpinLockConfig, TaskConfig,
 };
 use crate::statement::{
-    FlagStatement, HandlerStatement, MailboxStatement, MutexStatement, PoolStatement,
-    QueueStatement, SemaphoreStatement, SpinLockStatement, TaskStatement,
+    AlarmStatement, CyclicStatement, FlagStatement, HandlerStatement, MailboxStatement,
+    MutexStatement, PoolStatement, QueueStatement, SemaphoreStatement, SpinLockStatement,
+    TaskStatement,
 };
 use bitflags::Flags;
+
+/// The greatest number of ticks that a cyclic handler may have as its period or its phase.
+const MOST_TICKS: u32 = 0x7fff_ffff;
 
 /// The number, where it lies from `low` to `high`, else the fault.
 #[tactic(auto, unfolding(crate::specs::Meaning::within))]
@@ -104,6 +108,20 @@ fn has_mailbox(mailboxes: &[MailboxConfig], id: u32) -> bool
     ensures { result ≡ list_any (λ other. other.id == id) mailboxes.now }
 {
     mailboxes.iter().any(|other| other.id as u32 == id)
+}
+
+/// Whether one of the cyclic handlers has this ID.
+fn has_cyclic(cyclics: &[CyclicConfig], id: u32) -> bool
+    ensures { result ≡ list_any (λ other. other.id == id) cyclics.now }
+{
+    cyclics.iter().any(|other| other.id as u32 == id)
+}
+
+/// Whether one of the alarm handlers has this ID.
+fn has_alarm(alarms: &[AlarmConfig], id: u32) -> bool
+    ensures { result ≡ list_any (λ other. other.id == id) alarms.now }
+{
+    alarms.iter().any(|other| other.id as u32 == id)
 }
 
 /// Whether one of the handlers has this line.
@@ -348,6 +366,69 @@ pub(crate) fn mailbox(
         id: id as u16,
         attributes: MailboxAttributes::from_bits_retain(attributes),
         priorities: priorities as u8,
+    })
+}
+
+/// The cyclic handler of a statement that begins on this line, on this processor, next to the cyclic handlers that are
+/// defined.
+#[tactic(auto, unfolding(crate::specs::Meaning::cyclic_of))]
+pub(crate) fn cyclic(
+    line: usize,
+    cyclics: &[CyclicConfig],
+    processor: u8,
+    statement: CyclicStatement,
+) -> Result<CyclicConfig, ConfigFault>
+    ensures { Gives (λ c. c) result (meaning.cyclic_of line cyclics.now processor statement) }
+{
+    let id = within(statement.id, 1, 64, ConfigFault::BadId { line })?;
+    if has_cyclic(cyclics, statement.id) {
+        return Err(ConfigFault::Duplicate { line });
+    }
+    let attributes = only_bits(statement.attributes, 7, ConfigFault::BadAttribute { line })?;
+    let period = within(
+        statement.period,
+        1,
+        MOST_TICKS,
+        ConfigFault::BadCount { line },
+    )?;
+    let phase = within(
+        statement.phase,
+        0,
+        MOST_TICKS,
+        ConfigFault::BadCount { line },
+    )?;
+    Ok(CyclicConfig {
+        id: id as u16,
+        processor,
+        attributes: CyclicAttributes::from_bits_retain(attributes),
+        exinf: statement.exinf,
+        address: statement.address,
+        period,
+        phase,
+    })
+}
+
+/// The alarm handler of a statement that begins on this line, on this processor, next to the alarm handlers that are
+/// defined.
+#[tactic(auto, unfolding(crate::specs::Meaning::alarm_of))]
+pub(crate) fn alarm(
+    line: usize,
+    alarms: &[AlarmConfig],
+    processor: u8,
+    statement: AlarmStatement,
+) -> Result<AlarmConfig, ConfigFault>
+    ensures { Gives (λ a. a) result (meaning.alarm_of line alarms.now processor statement) }
+{
+    let id = within(statement.id, 1, 64, ConfigFault::BadId { line })?;
+    if has_alarm(alarms, statement.id) {
+        return Err(ConfigFault::Duplicate { line });
+    }
+    only_bits(statement.attributes, 1, ConfigFault::BadAttribute { line })?;
+    Ok(AlarmConfig {
+        id: id as u16,
+        processor,
+        exinf: statement.exinf,
+        address: statement.address,
     })
 }
 

@@ -3,8 +3,8 @@
 ghost use Rattle.brd_config.specs.Configuration.{IsConfiguration};
 
 use crate::objects::{
-    FlagConfig, HandlerConfig, MailboxConfig, MutexConfig, PoolConfig, QueueConfig,
-    SemaphoreConfig, SpinLockConfig, TaskConfig,
+    AlarmConfig, CyclicConfig, FlagConfig, HandlerConfig, MailboxConfig, MutexConfig, PoolConfig,
+    QueueConfig, SemaphoreConfig, SpinLockConfig, TaskConfig,
 };
 use brd_base::List;
 
@@ -25,6 +25,8 @@ pub struct Config {
     pub mutexes: List<MutexConfig>,
     pub pools: List<PoolConfig>,
     pub mailboxes: List<MailboxConfig>,
+    pub cyclics: List<CyclicConfig>,
+    pub alarms: List<AlarmConfig>,
     pub handlers: List<HandlerConfig>,
     ghost valid: { IsConfiguration
         (record {
@@ -39,6 +41,8 @@ pub struct Config {
           mutexes = mutexes;
           pools = pools;
           mailboxes = mailboxes;
+          cyclics = cyclics;
+          alarms = alarms;
           handlers = handlers;
         }) },
 }
@@ -58,6 +62,8 @@ impl Drop for Config {
             mutexes: _,
             pools: _,
             mailboxes: _,
+            cyclics: _,
+            alarms: _,
             handlers: _,
         } = self;
     }

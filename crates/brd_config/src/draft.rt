@@ -1,8 +1,8 @@
 //! What the statements so far have said.
 
 use crate::objects::{
-    FlagConfig, HandlerConfig, MailboxConfig, MutexConfig, PoolConfig, QueueConfig,
-    SemaphoreConfig, SpinLockConfig, TaskConfig,
+    AlarmConfig, CyclicConfig, FlagConfig, HandlerConfig, MailboxConfig, MutexConfig, PoolConfig,
+    QueueConfig, SemaphoreConfig, SpinLockConfig, TaskConfig,
 };
 use brd_base::List;
 
@@ -20,6 +20,8 @@ pub struct Draft {
     pub mutexes: List<MutexConfig>,
     pub pools: List<PoolConfig>,
     pub mailboxes: List<MailboxConfig>,
+    pub cyclics: List<CyclicConfig>,
+    pub alarms: List<AlarmConfig>,
     pub handlers: List<HandlerConfig>,
     /// The processor of the class in which the next statement stands.
     pub class: Option<u8>,

@@ -19,11 +19,12 @@ pub fn reading_ends()
 
 /// The profile changes no other text: one that doesn't begin with `PROFILE(STANDARD);` says what it says, or has the
 /// fault that it has, where no text asks for the profile. And a kernel has the profile just where its text begins so,
-/// and without it no mutex, no memory pool and no mailbox.
+/// and without it no mutex, no memory pool, no mailbox, no cyclic handler and no alarm handler.
 pub fn only_the_profile_is_new()
     ensures same { (text : List ℕ) → has_profile (tokens_of text) ≡ false → config_of text ≡ plain_config_of text }
     ensures marked { (text : List ℕ) (config : Configuration) → config_of text ≡ Ok config →
         config.standard ≡ has_profile (tokens_of text) }
     ensures none { (text : List ℕ) (config : Configuration) → config_of text ≡ Ok config → config.standard ≡ false →
-        (config.mutexes ≡ []) × (config.pools ≡ []) × (config.mailboxes ≡ []) }
+        (config.mutexes ≡ []) × (config.pools ≡ []) × (config.mailboxes ≡ []) × (config.cyclics ≡ [])
+        × (config.alarms ≡ []) }
 {}

@@ -1,8 +1,8 @@
 //! What a configuration says of each kernel object.
 
 use crate::attributes::{
-    FlagAttributes, MailboxAttributes, PoolAttributes, QueueAttributes, SemaphoreAttributes,
-    TaskAttributes,
+    CyclicAttributes, FlagAttributes, MailboxAttributes, PoolAttributes, QueueAttributes,
+    SemaphoreAttributes, TaskAttributes,
 };
 use brd_base::List;
 
@@ -125,6 +125,37 @@ pub struct MailboxConfig {
     pub attributes: MailboxAttributes,
     /// How many priorities its messages have, 1 the highest: 1 to 16. Without TA_MPRI it has no effect.
     pub priorities: u8,
+}
+
+/// A cyclic handler, as `CRE_CYC` says it.
+#[derive(Drop)]
+pub struct CyclicConfig {
+    /// 1 to 64.
+    pub id: u16,
+    /// The processor on which it runs.
+    pub processor: u8,
+    pub attributes: CyclicAttributes,
+    /// Its argument.
+    pub exinf: Operand,
+    /// Where it starts.
+    pub address: Operand,
+    /// How many ticks pass from one time to the next: 1 to 0x7fff_ffff.
+    pub period: u32,
+    /// How many ticks pass from boot to the first time, where its times are counted from boot: up to 0x7fff_ffff.
+    pub phase: u32,
+}
+
+/// An alarm handler, as `CRE_ALM` says it.
+#[derive(Drop)]
+pub struct AlarmConfig {
+    /// 1 to 64.
+    pub id: u16,
+    /// The processor on which it runs.
+    pub processor: u8,
+    /// Its argument.
+    pub exinf: Operand,
+    /// Where it starts.
+    pub address: Operand,
 }
 
 /// An interrupt handler, as `DEF_INH` says it.

@@ -1,6 +1,6 @@
 //! A text to a configuration, statement by statement.
 
-ghost use Rattle.std.specs.Prelude.{◌≡◌, ◌≤◌, ◌<◌, false, IsTrue, IfOk, length, None, Ok};
+ghost use Rattle.std.specs.Prelude.{◌≡◌, ◌<◌, false, IsTrue, IfOk, length, None, Ok};
 ghost use Rattle.brd_text.specs.Turns.{flow_of};
 ghost use Rattle.brd_text.specs.Tokens.{seen, tokens_of};
 ghost use Rattle.brd_config.specs.Faults.{Gives};
@@ -47,6 +47,8 @@ fn begun(
         mutexes: List::new(alloc),
         pools: List::new(alloc),
         mailboxes: List::new(alloc),
+        cyclics: List::new(alloc),
+        alarms: List::new(alloc),
         handlers: List::new(alloc),
         class: None,
     })
@@ -101,6 +103,16 @@ fn add(draft: &mut Draft, line: usize, statement: Statement) -> Result<(), Confi
         Statement::Mailbox(mailbox) => {
             let mailbox = checks::mailbox(line, draft.mailboxes.as_slice(), mailbox)?;
             draft.mailboxes.push(mailbox)?;
+        }
+        Statement::Cyclic(cyclic) => {
+            let processor = draft.class.unwrap_or(1);
+            let cyclic = checks::cyclic(line, draft.cyclics.as_slice(), processor, cyclic)?;
+            draft.cyclics.push(cyclic)?;
+        }
+        Statement::Alarm(alarm) => {
+            let processor = draft.class.unwrap_or(1);
+            let alarm = checks::alarm(line, draft.alarms.as_slice(), processor, alarm)?;
+            draft.alarms.push(alarm)?;
         }
         Statement::Handler(handler) => {
             let processor = draft.class.unwrap_or(1);
@@ -243,6 +255,8 @@ fn whole(draft: Draft) -> Config
         mutexes: draft.mutexes,
         pools: draft.pools,
         mailboxes: draft.mailboxes,
+        cyclics: draft.cyclics,
+        alarms: draft.alarms,
         handlers: draft.handlers,
     }
 }

@@ -63,6 +63,23 @@ pub fn mailbox_attribute_named(run: &[u8]) -> Option<u32>
     find(MAILBOX_ATTRIBUTES, run)
 }
 
+/// The bits of each attribute's name that a cyclic handler has.
+const CYCLIC_ATTRIBUTES: &[(&[u8], u32)] = &[
+    (b"TA_NULL", 0),
+    (b"TA_HLNG", 0),
+    (b"TA_ASM", 1),
+    (b"TA_STA", 2),
+    (b"TA_PHS", 4),
+];
+
+/// The bits of the name of a cyclic handler's attribute.
+#[tactic(auto, unfolding(crate::specs::Reading::cyclic_attribute_named))]
+pub fn cyclic_attribute_named(run: &[u8]) -> Option<u32>
+    ensures { result ≡ reads.cyclic_attribute_named run.now }
+{
+    find(CYCLIC_ATTRIBUTES, run)
+}
+
 /// The bits of an attribute's name, of these names.
 fn named_among(names: AttributeNames, run: &[u8]) -> Option<u32>
     ensures { result ≡ reads.named_among names run.now }
@@ -70,6 +87,7 @@ fn named_among(names: AttributeNames, run: &[u8]) -> Option<u32>
     match names {
         AttributeNames::Common => attribute_named(run),
         AttributeNames::Mailbox => mailbox_attribute_named(run),
+        AttributeNames::Cyclic => cyclic_attribute_named(run),
     }
 }
 

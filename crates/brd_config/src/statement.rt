@@ -18,6 +18,8 @@ pub(crate) enum Statement {
     Mutex(MutexStatement),
     Pool(PoolStatement),
     Mailbox(MailboxStatement),
+    Cyclic(CyclicStatement),
+    Alarm(AlarmStatement),
     Handler(HandlerStatement),
 }
 
@@ -91,6 +93,26 @@ pub(crate) struct MailboxStatement {
     pub(crate) priorities: u32,
 }
 
+/// `CRE_CYC(id, {attributes, exinf, address, period, phase});`
+#[derive(Drop)]
+pub(crate) struct CyclicStatement {
+    pub(crate) id: u32,
+    pub(crate) attributes: u32,
+    pub(crate) exinf: Operand,
+    pub(crate) address: Operand,
+    pub(crate) period: u32,
+    pub(crate) phase: u32,
+}
+
+/// `CRE_ALM(id, {attributes, exinf, address});`
+#[derive(Drop)]
+pub(crate) struct AlarmStatement {
+    pub(crate) id: u32,
+    pub(crate) attributes: u32,
+    pub(crate) exinf: Operand,
+    pub(crate) address: Operand,
+}
+
 /// `DEF_INH(line, {attributes, address});`
 #[derive(Drop)]
 pub(crate) struct HandlerStatement {
@@ -112,14 +134,18 @@ pub enum Keyword {
     Mutex,
     Pool,
     Mailbox,
+    Cyclic,
+    Alarm,
     Handler,
 }
 
 /// Which names a statement has for its attributes.
 #[derive(Clone, Copy)]
 pub(crate) enum AttributeNames {
-    /// Those that all objects share but mutexes and mailboxes.
+    /// Those that all objects share but mutexes, mailboxes and cyclic handlers.
     Common,
     /// Those of mailboxes.
     Mailbox,
+    /// Those of cyclic handlers.
+    Cyclic,
 }

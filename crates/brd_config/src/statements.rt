@@ -12,8 +12,9 @@ use crate::reading::{
     protocol, stack, tail,
 };
 use crate::statement::{
-    AttributeNames, FlagStatement, HandlerStatement, Keyword, MailboxStatement, MutexStatement,
-    PoolStatement, QueueStatement, SemaphoreStatement, SpinLockStatement, Statement, TaskStatement,
+    AlarmStatement, AttributeNames, CyclicStatement, FlagStatement, HandlerStatement, Keyword,
+    MailboxStatement, MutexStatement, PoolStatement, QueueStatement, SemaphoreStatement,
+    SpinLockStatement, Statement, TaskStatement,
 };
 use brd_text::{Scanner, Token};
 use std::alloc::Global;
@@ -30,6 +31,8 @@ pub const KEYWORDS: &[(&[u8], Keyword)] = &[
     (b"CRE_MTX", Keyword::Mutex),
     (b"CRE_MPF", Keyword::Pool),
     (b"CRE_MBX", Keyword::Mailbox),
+    (b"CRE_CYC", Keyword::Cyclic),
+    (b"CRE_ALM", Keyword::Alarm),
     (b"DEF_INH", Keyword::Handler),
 ];
 
@@ -222,6 +225,46 @@ fn mailbox(tokens: &mut Scanner) -> Result<Statement, ConfigFault>
     }))
 }
 
+/// Takes what follows `CRE_CYC`.
+#[tactic(auto, unfolding(crate::specs::Statements::cyclic_at))]
+fn cyclic(alloc: Global, tokens: &mut Scanner) -> Result<Statement, ConfigFault>
+    ensures read { Gives (λ s. (s, tokens.new)) result (statements.cyclic_at tokens.old) }
+    ensures shorter { OnOk result (length tokens.new.tokens < length tokens.old.tokens) }
+{
+    let (id, attributes) = head(tokens, AttributeNames::Cyclic, b',')?;
+    let exinf = listed_operand(alloc, tokens)?;
+    let address = listed_operand(alloc, tokens)?;
+    let period = listed_number(tokens)?;
+    let phase = number(tokens)?;
+    tail(tokens)?;
+    Ok(Statement::Cyclic(CyclicStatement {
+        id,
+        attributes,
+        exinf,
+        address,
+        period,
+        phase,
+    }))
+}
+
+/// Takes what follows `CRE_ALM`.
+#[tactic(auto, unfolding(crate::specs::Statements::alarm_at))]
+fn alarm(alloc: Global, tokens: &mut Scanner) -> Result<Statement, ConfigFault>
+    ensures read { Gives (λ s. (s, tokens.new)) result (statements.alarm_at tokens.old) }
+    ensures shorter { OnOk result (length tokens.new.tokens < length tokens.old.tokens) }
+{
+    let (id, attributes) = head(tokens, AttributeNames::Common, b',')?;
+    let exinf = listed_operand(alloc, tokens)?;
+    let address = operand(alloc, tokens)?;
+    tail(tokens)?;
+    Ok(Statement::Alarm(AlarmStatement {
+        id,
+        attributes,
+        exinf,
+        address,
+    }))
+}
+
 /// Takes what follows `DEF_INH`.
 #[tactic(auto, unfolding(crate::specs::Statements::handler_at))]
 fn handler(alloc: Global, tokens: &mut Scanner) -> Result<Statement, ConfigFault>
@@ -285,6 +328,18 @@ fn behind_keyword(
                 return Err(ConfigFault::Syntax { line });
             }
             mailbox(tokens)
+        }
+        Keyword::Cyclic => {
+            if !standard {
+                return Err(ConfigFault::Syntax { line });
+            }
+            cyclic(alloc, tokens)
+        }
+        Keyword::Alarm => {
+            if !standard {
+                return Err(ConfigFault::Syntax { line });
+            }
+            alarm(alloc, tokens)
         }
         Keyword::Handler => handler(alloc, tokens),
     }

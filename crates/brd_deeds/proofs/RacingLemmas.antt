@@ -252,19 +252,19 @@ settles-more (suc n) log =
 
 -- the deeds of a run are those of its events, and then those of its end
 pub run-deeds : (queues : List QueueConfig) (boot : BoardState) (events : List Event) (at : ℕ) (past : Past) (log : Log) →
-    past ≡ (deeds_up_to queues boot events at).past → log ≡ settles_below 288 (nothing past) →
+    past ≡ (deeds_up_to queues boot events at).past → log ≡ settles_below 416 (nothing past) →
     deeds_of_run queues boot (take at events) ≡ (deeds_up_to queues boot events at).deeds ++ log.deeds
 run-deeds queues boot events at past log is ends =
     let old = deeds_up_to queues boot events at in
-    ap (λ (it : Log). (settles_below 288 it).deeds) (sym (then-nothing old))
-    ∙ ap (λ (it : Log). it.deeds) (settles-after 288 old.deeds (nothing old.past))
-    ∙ ap (λ (p : Past). old.deeds ++ (settles_below 288 (nothing p)).deeds) (sym is)
+    ap (λ (it : Log). (settles_below 416 it).deeds) (sym (then-nothing old))
+    ∙ ap (λ (it : Log). it.deeds) (settles-after 416 old.deeds (nothing old.past))
+    ∙ ap (λ (p : Past). old.deeds ++ (settles_below 416 (nothing p)).deeds) (sym is)
     ∙ ap (λ (it : Log). old.deeds ++ it.deeds) (sym ends)
 
 -- the deeds of its events are no more
 pub run-more : (queues : List QueueConfig) (boot : BoardState) (events : List Event) (at : ℕ) →
     length (deeds_up_to queues boot events at).deeds ≤ length (deeds_of_run queues boot (take at events))
-run-more queues boot events at = settles-more 288 (deeds_up_to queues boot events at)
+run-more queues boot events at = settles-more 416 (deeds_up_to queues boot events at)
 
 -- what holds of a success holds together
 pub on_ok_both : {A E : Type 0} (P Q : Type 0) (r : Result A E) → OnOk r P → OnOk r Q → OnOk r (P × Q)

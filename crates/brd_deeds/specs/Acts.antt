@@ -1,8 +1,8 @@
 -- What orders tasks and handlers, row by row of the table of docs/RACES.md: what is released into, and who acquires
 -- from it. A strand is who acts: a task, which keeps its strand wherever it runs and however often it starts, or the
 -- handler of an interrupt line. Which call does which of these, `Calls.antt` says.
-use Rattle.std.specs.Prelude.{◌/◌, ◌%◌, ◌^◌, ◌==◌, ℕ, zero, suc, Bool, true, false, if◌then◌else◌, [], ◌∷◌, bit_and}
-use Rattle.std.specs.Prelude.{Option, None, Some}
+use Rattle.std.specs.Prelude.{◌+◌, ◌*◌, ◌/◌, ◌%◌, ◌^◌, ◌==◌, ℕ, zero, suc, Bool, true, false}
+use Rattle.std.specs.Prelude.{if◌then◌else◌, [], ◌∷◌, bit_and, Option, None, Some}
 use Rattle.brd_tasks.specs.declared.task.TaskView.{TaskView}
 use Rattle.brd_board.specs.Board.{BoardState, task_of}
 use Rattle.brd_order.specs.declared.deed.Touch.{Touch}
@@ -216,6 +216,28 @@ asks_to_start doer task after log =
 -- can_act of it that takes some back
 abbrev pub takes_starts_back : Doer → ℕ → Log → Log
 takes_starts_back doer task = acquires_from doer thing.Start task
+
+-- A time handler's starts, by its strand.
+
+-- 256 and its line (IDs are 64 at most)
+
+abbrev pub cyclic_strand : ℕ → ℕ
+cyclic_strand id = 286 + 2 * (id % 65536)
+
+abbrev pub alarm_strand : ℕ → ℕ
+alarm_strand id = 287 + 2 * (id % 65536)
+
+-- sta_cyc; sta_alm, ista_alm
+
+abbrev pub starts_cyclic : Doer → ℕ → Log → Log
+starts_cyclic doer id = releases_into doer thing.Handler (cyclic_strand id)
+
+abbrev pub starts_alarm : Doer → ℕ → Log → Log
+starts_alarm doer id = releases_into doer thing.Handler (alarm_strand id)
+
+-- the handler, when it begins; of a line up to 31, into which nothing is released, too
+abbrev pub begins_started : Doer → Log → Log
+begins_started doer = acquires_from doer thing.Handler doer.strand
 
 -- A task's wake-ups.
 

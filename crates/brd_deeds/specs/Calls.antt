@@ -19,7 +19,7 @@ use Rattle.brd_deeds.specs.Acts.{takes_mutex, gives_mutex_back, gets_block, give
 use Rattle.brd_deeds.specs.Acts.{sends_message, receives_message}
 use Rattle.brd_deeds.specs.Acts.{locks_cpu, unlocks_cpu, releases_cpu, disables_dispatching, enables_dispatching}
 use Rattle.brd_deeds.specs.Acts.{asks_to_start, starts, takes_starts_back, wakes_up, takes_wake_up, lets_go_on, goes_on}
-use Rattle.brd_deeds.specs.Acts.{resumes, halts}
+use Rattle.brd_deeds.specs.Acts.{resumes, halts, starts_cyclic, starts_alarm}
 
 -- the task that a call names: 0 is the caller
 abbrev pub named : Doer → ℕ → ℕ
@@ -67,6 +67,10 @@ acts_done doer (call.RelWai id) second after log = lets_go_on doer (named doer i
 acts_done doer (call.RsmTsk id) second after log = resumes doer (named doer id) log
 acts_done doer (call.TerTsk id) second after log = terminates doer (named doer id) log
 acts_done doer (call.SusTsk id) second after log = suspends doer (named doer id) log
+acts_done doer (call.StaCyc id) second after log = starts_cyclic doer id log
+acts_done doer (call.StaAlm id time) second after log = starts_alarm doer id log
+acts_done doer (call.StpCyc id) second after log = log
+acts_done doer (call.StpAlm id) second after log = log
 acts_done doer (call.CanAct id) second after log = log
 acts_done doer call.ExtTsk second after log = log
 acts_done doer (call.ChgPri id priority) second after log = log
@@ -94,6 +98,8 @@ acts_done doer (call.RefDtq id word) second after log = log
 acts_done doer (call.RefMtx id word) second after log = log
 acts_done doer (call.RefMpf id word) second after log = log
 acts_done doer (call.RefMbx id word) second after log = log
+acts_done doer (call.RefCyc id word) second after log = log
+acts_done doer (call.RefAlm id word) second after log = log
 
 -- The wait of a task ended with what it waited for: it was answered with E_OK and this second result, by a call of
 -- `caller`.
@@ -156,6 +162,12 @@ acts_taken caller doer (call.RelMpf id block) second log = log
 acts_taken caller doer (call.SndMbx id message priority) second log = log
 acts_taken caller doer (call.RefMpf id word) second log = log
 acts_taken caller doer (call.RefMbx id word) second log = log
+acts_taken caller doer (call.StaCyc id) second log = log
+acts_taken caller doer (call.StpCyc id) second log = log
+acts_taken caller doer (call.StaAlm id time) second log = log
+acts_taken caller doer (call.StpAlm id) second log = log
+acts_taken caller doer (call.RefCyc id word) second log = log
+acts_taken caller doer (call.RefAlm id word) second log = log
 
 -- a call's caller waits
 abbrev pub acts_waiting : Doer → Call → Log → Log

@@ -12,7 +12,7 @@ use Rattle.brd_order.specs.declared.deed.Deed.{Deed}
 use Rattle.brd_deeds.specs.declared.past.{Stamp.Stamp, Past.Past}
 use Rattle.brd_deeds.specs.declared.log.{Doer.Doer, Log.Log}
 use Rattle.brd_deeds.specs.Past.{past_of}
-use Rattle.brd_deeds.specs.Acts.{acquires_cpu}
+use Rattle.brd_deeds.specs.Acts.{acquires_cpu, begins_started}
 use Rattle.brd_deeds.specs.Trails.{settled, executes, settles_below}
 use Rattle.brd_deeds.specs.Calls.{calls, ends, released}
 
@@ -40,10 +40,13 @@ acts_by_strand stamp cpu None what after log = log
 acts_by_strand stamp cpu (Some strand) what after log =
     acts_in (record { strand = strand; cpu = cpu; stamp = stamp }) what after log
 
--- a handler that begins comes after all CPU locks of its processor, and after its handlers before
+-- a handler that begins comes after all CPU locks of its processor, after its handlers before, and after its starts
+abbrev pub begins : Doer → Log → Log
+begins doer log = begins_started doer (acquires_cpu doer log)
+
 abbrev pub acts_on : Stamp → ℕ → Option ℕ → What → BoardState → Log → Log
 acts_on stamp cpu strand (what.Accepted line) after log =
-    acquires_cpu (record { strand = 256 + line; cpu = cpu; stamp = stamp }) log
+    begins (record { strand = 256 + line; cpu = cpu; stamp = stamp }) log
 acts_on stamp cpu strand other after log = acts_by_strand stamp cpu strand other after log
 
 abbrev pub acts_at : Stamp → Option ℕ → Option ℕ → What → BoardState → Log → Log
@@ -83,10 +86,10 @@ deeds_from position past b (event ∷ events) =
     (deeds_from (position + 1) (deeds_in position past b event).past (happens b event).board events)
 
 -- The deeds of a run: of its events, and at its end the loads of which then is known that no SYNC follows, by ascending
--- strand: of 256 tasks and 32 handlers.
+-- strand: of 256 tasks and 160 handlers.
 
 abbrev pub deeds_to_end : Log → List Deed
-deeds_to_end log = (settles_below 288 log).deeds
+deeds_to_end log = (settles_below 416 log).deeds
 
 abbrev pub deeds_of_run : List QueueConfig → BoardState → List Event → List Deed
 deeds_of_run queues boot events = deeds_to_end (deeds_from 0 (past_of queues) boot events)

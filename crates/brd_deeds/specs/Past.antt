@@ -26,10 +26,10 @@ abbrev pub with_rings : List Ring → List QueueConfig → List Ring
 with_rings rings [] = rings
 with_rings rings (queue ∷ queues) = with_rings (slice_set rings queue.id (ring_of queue.capacity)) queues
 
--- 256 tasks and 32 handlers, 8 processors from 1 on, data queues by ID
+-- 256 tasks and 160 handlers, 8 processors from 1 on, data queues by ID
 abbrev pub past_of : List QueueConfig → Past
 past_of queues = record {
-  trails = replicate 288 Nothing;
+  trails = replicate 416 Nothing;
   holds = replicate 9 free;
   rings = with_rings (replicate 256 (ring_of 0)) queues;
 }

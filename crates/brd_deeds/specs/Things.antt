@@ -4,7 +4,7 @@ use Rattle.std.specs.Prelude.{◌+◌, ◌*◌, ℕ}
 use Rattle.brd_deeds.specs.declared.thing.{ThingKind.ThingKind, Thing.Thing}
 use Rattle.brd_deeds.specs.declared.thing.ThingKind.TheVariants.{Semaphore, FlagBit, Datum, Room, Meeting, SpinLock}
 use Rattle.brd_deeds.specs.declared.thing.ThingKind.TheVariants.{Processor, Dispatching, Start, WakeUp, Going, Halt}
-use Rattle.brd_deeds.specs.declared.thing.ThingKind.TheVariants.{Word, Mutex, Block, Message}
+use Rattle.brd_deeds.specs.declared.thing.ThingKind.TheVariants.{Word, Mutex, Block, Message, Handler}
 
 abbrev pub rank_of : ThingKind → ℕ
 rank_of Semaphore = 0
@@ -23,6 +23,7 @@ rank_of Word = 12
 rank_of Mutex = 13
 rank_of Block = 14
 rank_of Message = 15
+rank_of Handler = 16
 
 abbrev pub number_of : Thing → ℕ
 number_of it = (rank_of it.kind * 65536 + it.part) * 4294967296 + it.id

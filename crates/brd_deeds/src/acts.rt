@@ -4,10 +4,13 @@ ghost use Rattle.std.specs.Prelude.{◌≡◌, ◌<◌, OnOk};
 ghost use Rattle.brd_deeds.specs.Acts.{
   acquires_cpu,
   acquires_from,
+  alarm_strand,
   asks_to_start,
+  begins_started,
   begins_to_load,
   block_of,
   comes_to_meet,
+  cyclic_strand,
   disables_dispatching,
   enables_dispatching,
   frees_spin_lock,
@@ -42,6 +45,8 @@ ghost use Rattle.brd_deeds.specs.Acts.{
   sets_bit,
   sets_bits,
   starts,
+  starts_alarm,
+  starts_cyclic,
   stores_releasing,
   takes_mutex,
   takes_room,
@@ -82,6 +87,20 @@ fn message_in(mailbox: u32, address: u32) -> Thing
     ensures { result ≡ message_in mailbox address }
 {
     Thing::part(ThingKind::Message, address, (mailbox % 65_536) as u16)
+}
+
+/// The strand of the cyclic handler of an ID.
+fn cyclic_strand(id: u32) -> u32
+    ensures { result ≡ cyclic_strand id }
+{
+    286 + 2 * (id % 65_536)
+}
+
+/// The strand of the alarm handler of an ID.
+fn alarm_strand(id: u32) -> u32
+    ensures { result ≡ alarm_strand id }
+{
+    287 + 2 * (id % 65_536)
 }
 
 /// Whether a task has no start queued: one that was asked for has taken place.
@@ -428,6 +447,27 @@ impl Log {
         ensures { OnOk result (self.new ≡ takes_starts_back doer task self.old) }
     {
         self.acquire(doer, ThingKind::Start, u32::from(task))
+    }
+
+    /// A cyclic handler is started.
+    pub(crate) fn start_cyclic(&mut self, doer: Doer, id: u32) -> Result<(), NoMemory>
+        ensures { OnOk result (self.new ≡ starts_cyclic doer id self.old) }
+    {
+        self.release(doer, ThingKind::Handler, cyclic_strand(id))
+    }
+
+    /// An alarm handler is started.
+    pub(crate) fn start_alarm(&mut self, doer: Doer, id: u32) -> Result<(), NoMemory>
+        ensures { OnOk result (self.new ≡ starts_alarm doer id self.old) }
+    {
+        self.release(doer, ThingKind::Handler, alarm_strand(id))
+    }
+
+    /// A handler begins, after its starts.
+    pub(crate) fn begin_started(&mut self, doer: Doer) -> Result<(), NoMemory>
+        ensures { OnOk result (self.new ≡ begins_started doer self.old) }
+    {
+        self.acquire(doer, ThingKind::Handler, u32::from(doer.strand))
     }
 
     /// A task is woken up.

@@ -101,6 +101,8 @@ impl Log {
             Call::RsmTsk(id) => self.resume(doer, doer.named(id)),
             Call::TerTsk(id) => self.terminate(doer, doer.named(id)),
             Call::SusTsk(id) => self.suspend(doer, doer.named(id)),
+            Call::StaCyc(id) => self.start_cyclic(doer, id),
+            Call::StaAlm(id, _) => self.start_alarm(doer, id),
             Call::CanAct(_)
             | Call::ExtTsk
             | Call::ChgPri(_, _)
@@ -121,13 +123,17 @@ impl Log {
             | Call::Sns(_)
             | Call::MgetTid(_)
             | Call::MrotRdq(_, _)
-            | Call::RefTsk(_, _)
+            | Call::StpCyc(_)
+            | Call::StpAlm(_) => Ok(()),
+            Call::RefTsk(_, _)
             | Call::RefSem(_, _)
             | Call::RefFlg(_, _)
             | Call::RefDtq(_, _)
             | Call::RefMtx(_, _)
             | Call::RefMpf(_, _)
-            | Call::RefMbx(_, _) => Ok(()),
+            | Call::RefMbx(_, _)
+            | Call::RefCyc(_, _)
+            | Call::RefAlm(_, _) => Ok(()),
         }
     }
 
@@ -215,7 +221,13 @@ impl Log {
             | Call::RelMpf(_, _)
             | Call::SndMbx(_, _, _)
             | Call::RefMpf(_, _)
-            | Call::RefMbx(_, _) => Ok(()),
+            | Call::RefMbx(_, _)
+            | Call::StaCyc(_)
+            | Call::StpCyc(_)
+            | Call::StaAlm(_, _)
+            | Call::StpAlm(_)
+            | Call::RefCyc(_, _)
+            | Call::RefAlm(_, _) => Ok(()),
         }
     }
 

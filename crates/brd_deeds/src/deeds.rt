@@ -6,6 +6,7 @@ ghost use Rattle.brd_deeds.specs.Deeds.{
   acts_by_strand,
   acts_in,
   all_released,
+  begins,
   deeds_of,
   faults,
   stamp_of,
@@ -81,6 +82,14 @@ impl Log {
         }
     }
 
+    /// A handler begins.
+    fn begin(&mut self, doer: Doer) -> Result<(), NoMemory>
+        ensures { OnOk result (self.new ≡ begins doer self.old) }
+    {
+        self.acquire_cpu(doer)?;
+        self.begin_started(doer)
+    }
+
     /// What is done in an event, but for what whom it releases does.
     fn put_acts(&mut self, stamp: Stamp, told: &Happening, after: &Board) -> Result<(), NoMemory>
         ensures { OnOk result (self.new
@@ -90,7 +99,7 @@ impl Log {
             return Ok(());
         };
         if let What::Accepted(line) = told.what {
-            return self.acquire_cpu(Doer {
+            return self.begin(Doer {
                 strand: 256 + u16::from(line),
                 cpu,
                 stamp,

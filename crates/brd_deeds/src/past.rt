@@ -103,7 +103,7 @@ impl Past {
         let mut rings = Table::new(alloc, 256, Ring::new(0))?;
         put_rings(&mut rings, queues);
         Ok(Past {
-            trails: Table::new(alloc, 288, Trail::Nothing)?,
+            trails: Table::new(alloc, 416, Trail::Nothing)?,
             holds: Table::new(alloc, 9, Hold::free())?,
             rings,
         })

@@ -38,6 +38,8 @@ pub enum ThingKind {
     Block,
     /// A message of a mailbox.
     Message,
+    /// A time handler, by its starts.
+    Handler,
 }
 
 /// What orders tasks and handlers.
@@ -45,7 +47,8 @@ pub enum ThingKind {
 pub struct Thing {
     /// Its kind.
     pub kind: ThingKind,
-    /// Which of them: an ID, a strand, a processor's number, or the address of a word, a block or a message.
+    /// Which of them: an ID, a strand (of a time handler too), a processor's number, or the address of a word, a block
+    /// or a message.
     pub id: u32,
     /// Which part of it: a bit or a place; of a block or a message its pool or mailbox; 0 where it has none.
     pub part: u16,
@@ -77,7 +80,7 @@ impl Thing {
 /// The place of a kind among all.
 fn rank_of(kind: ThingKind) -> u64
     ensures is { result ≡ rank_of kind }
-    ensures few { result ≤ 15 }
+    ensures few { result ≤ 16 }
 {
     match kind {
         ThingKind::Semaphore => 0,
@@ -96,5 +99,6 @@ fn rank_of(kind: ThingKind) -> u64
         ThingKind::Mutex => 13,
         ThingKind::Block => 14,
         ThingKind::Message => 15,
+        ThingKind::Handler => 16,
     }
 }

@@ -159,9 +159,9 @@ impl Log {
 
     /// The run ends: no SYNC follows what is still loaded.
     pub(crate) fn settle_all(&mut self) -> Result<(), NoMemory>
-        ensures { OnOk result (self.new ≡ settles_below 288 self.old) }
+        ensures { OnOk result (self.new ≡ settles_below 416 self.old) }
     {
-        for strand in 0..288u16 {
+        for strand in 0..416u16 {
             self.settle(strand)?;
         }
         Ok(())

@@ -9,6 +9,7 @@ use Rattle.brd_word.specs.Words.{word_of_bytes}
 use Rattle.brd_mem.specs.Memory.{byte_at}
 use Rattle.brd_exec.specs.State.{State}
 use Rattle.brd_tasks.specs.declared.task.TaskView.{TaskView}
+use Rattle.brd_kernel.specs.Kernel.{timer_due}
 use Rattle.brd_board.specs.declared.event.Event.{Event}
 use Rattle.brd_board.specs.declared.event.Event.TheVariants.{Step}
 use Rattle.brd_board.specs.Board.{BoardState, after, fault_of, registers_of, task_of}
@@ -44,12 +45,16 @@ abbrev pub has_due : Option TaskView → Bool
 has_due None = false
 has_due (Some task) = is_some task.due
 
--- some wait ends by a tick
-abbrev pub some_are_due : BoardState → Bool
-some_are_due b = some_below 256 (λ id. has_due (task_of b id))
+-- a time handler is due at a tick
+abbrev pub is_due : BoardState → ℕ → Bool
+is_due b place = is_some (timer_due b.kernel place)
 
--- A deadlock: the board is on, a task waits, no wait ends by a tick, and nobody goes. (An interrupt line that is raised
--- could still end it.)
+-- some wait ends by a tick, or some time handler is due at one
+abbrev pub some_are_due : BoardState → Bool
+some_are_due b = some_below 256 (λ id. has_due (task_of b id)) || some_below 128 (is_due b)
+
+-- A deadlock: the board is on, a task waits, no wait ends by a tick, no time handler is due at one, and nobody goes.
+-- (An interrupt line that is raised from outside could still end it.)
 abbrev pub is_stuck : BoardState → Bool
 is_stuck b = not b.kernel.off && some_below 256 (λ id. waits (task_of b id)) && not (some_are_due b) && nobody_goes b
 
@@ -154,7 +159,7 @@ fails_now wanted b = list_any (fails_by_now b) wanted.failures
 abbrev pub lacks : Wanted → BoardState → Bool
 lacks wanted b = list_any (fails_at_last b) wanted.failures
 
--- A board is at rest: it is off, or nobody goes and no wait ends by a tick.
+-- A board is at rest: it is off, or nobody goes, no wait ends by a tick, and no time handler is due at one.
 unfoldable pub is_at_rest : BoardState → Bool
 is_at_rest b = b.kernel.off || (nobody_goes b && not (some_are_due b))
 
@@ -164,7 +169,7 @@ unfoldable pub is_end : BoardState → Bounds → Bool
 is_end b left = b.kernel.off || (left.owed == 0 && is_at_rest b)
 
 -- It is cut short where it has come to no end, and no event is left, or nobody goes, and no tick is left for a wait
--- that would end by one.
+-- that would end by one, or for a time handler.
 unfoldable pub is_cut : BoardState → Bounds → Bool
 is_cut b left = not (is_end b left) && (left.events == 0 || (left.ticks == 0 && nobody_goes b && some_are_due b))
 

@@ -527,7 +527,8 @@ pub struct Counts {
     pub ended: u64,
     /// Those that are cut short: no event is left.
     pub out_of_events: u64,
-    /// Those that are cut short though events are left: no tick is left for a wait that would end by one.
+    /// Those that are cut short though events are left: no tick is left for a wait that would end by one, or for a time
+    /// handler.
     pub out_of_ticks: u64,
     /// How many preemptions were left everywhere. If any were, the bound on them has left nothing out.
     pub spare: u32,

@@ -15,8 +15,10 @@ ghost use Rattle.brd_explore.specs.Failures.{
   last_of,
   is_stuck,
   some_below,
+  some_are_due,
   waits,
   has_due,
+  is_due,
   word_of,
   is_value,
   is_at,
@@ -47,7 +49,7 @@ pub enum Failure {
     /// An exception has ended a task, or stopped a processor.
     Exception,
     /// A task waits, and nothing but an interrupt or a call from elsewhere could ever end that: nobody executes, no
-    /// interrupt is accepted, and no wait has a tick at which it ends.
+    /// interrupt is accepted, no wait has a tick at which it ends, and no time handler one at which it is due.
     Deadlock,
     /// The console no longer begins as this, or at the end isn't this.
     Console(List<u8>),
@@ -361,8 +363,15 @@ fn some_wait(board: &Board) -> bool
     false
 }
 
-/// Whether some wait ends by a tick.
+/// Whether some wait ends by a tick, or some time handler is due at one.
 pub fn some_are_due(board: &Board) -> bool
+    ensures { result ≡ some_are_due board.now }
+{
+    some_waits_end(board) || some_handlers_are_due(board)
+}
+
+/// Whether some wait ends by a tick.
+fn some_waits_end(board: &Board) -> bool
     ensures { result ≡ some_below 256 (λ id. has_due (task_of board.now id)) }
 {
     for id in 0..256u16 {
@@ -371,6 +380,25 @@ pub fn some_are_due(board: &Board) -> bool
         }
     }
     false
+}
+
+/// Whether some time handler is due at a tick.
+fn some_handlers_are_due(board: &Board) -> bool
+    ensures { result ≡ some_below 128 (is_due board.now) }
+{
+    for place in 0..128u8 {
+        if is_due(board, place) {
+            return true;
+        }
+    }
+    false
+}
+
+/// Whether the time handler at a place is due at a tick.
+fn is_due(board: &Board, place: u8) -> bool
+    ensures { result ≡ is_due board.now place }
+{
+    board.timer_due(place).is_some()
 }
 
 /// Whether a task waits.
@@ -393,7 +421,7 @@ fn has_due(board: &Board, id: TaskId) -> bool
     }
 }
 
-/// Whether a board is at rest: it is off, or nobody goes and no wait ends by a tick.
+/// Whether a board is at rest: it is off, or nobody goes, no wait ends by a tick, and no time handler is due at one.
 #[tactic(auto, unfolding(crate::specs::Failures::is_at_rest))]
 pub fn is_at_rest(board: &Board) -> Result<bool, NoMemory>
     ensures { IfOk result (λ rests. rests ≡ is_at_rest board.now) }

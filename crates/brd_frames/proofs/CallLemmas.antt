@@ -27,7 +27,7 @@ use Rattle.brd_sysgate.specs.declared.place.Place.{Place}
 use Rattle.brd_sysgate.specs.declared.place.Place.TheVariants as place
 use Rattle.brd_sysgate.specs.Gate.{Service, table_of, may_call, arguments_of, allowed, read_of, written, agent_by, agent_in, caller_of, served_call, changed_in, with_changed_context, replied, is_again, called_for, called_in, called}
 use Rattle.brd_frames.specs.Apart.{starts}
-use Rattle.brd_frames.proofs.TableLemmas.{Contexts, At, Unsteady, Restarted}
+use Rattle.brd_frames.proofs.TableLemmas.{Contexts, At, Unsteady}
 use Rattle.brd_frames.proofs.KernelLemmas.{k-with}
 use Rattle.brd_frames.proofs.ServiceLemmas.{AtExecutor, r-with, StaysBy, Stays, Alike, Frees, serve-alike, priorities-alike}
 

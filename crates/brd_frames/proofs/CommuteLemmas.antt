@@ -22,7 +22,7 @@ use Rattle.brd_board.proofs.BatchLemmas.{local-steps-go}
 use Rattle.brd_board.proofs.FormLemmas as form
 use Rattle.brd_frames.specs.Agents as agents
 use Rattle.brd_frames.specs.Agents.{Agent, agent_by, context_in, with_context_in, with_agent, happened_with}
-use Rattle.brd_frames.specs.Apart.{is_steady, Starts, Executes, IsApart, AreApart}
+use Rattle.brd_frames.specs.Apart.{IsApart, AreApart}
 use Rattle.brd_frames.specs.Touching.{is_among, touches, is_touched, is_stored, Agree, Change, changed, with_change, happened_changed, IsClearOf, put_at}
 use Rattle.brd_frames.specs.Going.{Gone, goes, links_after, with_gone, IsNext}
 use Rattle.brd_frames.specs.Commuting.{agent_goes, IsIndependent, AreIndependent, IsUnlinked, EndsNoLink}

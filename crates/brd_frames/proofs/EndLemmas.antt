@@ -31,6 +31,9 @@ use Rattle.brd_objects.specs.declared.mutex.Mutex.{Mutex}
 use Rattle.brd_objects.specs.Mutexes.{given, next_owner_in}
 use Rattle.brd_objects.specs.Pools.{PoolState, block_for, given_back, next_holder}
 use Rattle.brd_objects.specs.Mailboxes.{MailboxState, message_sent, message_outcome, next_message}
+use Rattle.brd_kernel.proofs.RingLemmas.{rung-keeps}
+use Rattle.brd_timers.specs.declared.timer.Timer.{Timer}
+use Rattle.brd_kernel.specs.Services.{sta_cyc, stp_cyc, sta_alm, stp_alm, ref_cyc, ref_alm}
 use Rattle.brd_kernel.specs.declared.processor.Processor.{Processor}
 use Rattle.brd_kernel.specs.declared.processor.Spin.{Spin}
 use Rattle.brd_kernel.specs.declared.processor.Executor.{Executor}
@@ -42,7 +45,7 @@ use Rattle.brd_kernel.specs.declared.call.Ercd.TheVariants.{Rlwai}
 use Rattle.brd_kernel.specs.declared.call.Reply.{Reply}
 use Rattle.brd_kernel.specs.declared.call.Reply.TheVariants.{Answer, Silent, Again}
 use Rattle.brd_kernel.specs.Answer.{e_ok, code_of}
-use Rattle.brd_kernel.specs.Kernel.{KernelState, processor_at, with_tasks, with_processor, executor_by, executor_in, executor_on, context_of, with_context_of, context_on, deliverable, handles, line_at}
+use Rattle.brd_kernel.specs.Kernel.{KernelState, processor_at, with_tasks, with_processor, executor_by, executor_in, executor_on, context_of, with_context_of, context_on, deliverable, handles, can_be_raised}
 use Rattle.brd_kernel.specs.Waits.{can_wait, with_wait, due_by, due_after, released_in, reason_of, unlisted, broken_off, answer_by, timed_out, all_timed_out, faulted_task, faulted_in, with_released, given_in, all_given_in, quits_in, prioritized}
 use Rattle.brd_kernel.specs.Row.{Served, served}
 use Rattle.brd_kernel.specs.Services.{named, act_tsk, can_act, ext_tsk, ter_tsk, chg_pri, get_pri, mact_tsk, mig_tsk, get_pid, rot_rdq, irot_rdq, get_tid, mark_dsp, mark_cpu, tslp_tsk, wup_tsk, can_wup, rel_wai, sus_tsk, rsm_tsk, dly_tsk, sig_sem, twai_sem, set_flg, clr_flg, twai_flg, tsnd_dtq, fsnd_dtq, trcv_dtq, put_chr, ext_ker, ret_int, loc_spn, try_spn, unl_spn, get_tim, set_tim, sns, mget_tid, mrot_rdq, ref_tsk, ref_sem, ref_flg, ref_dtq, tloc_mtx, unl_mtx, ref_mtx, tget_mpf, rel_mpf, snd_mbx, trcv_mbx, ref_mpf, ref_mbx}
@@ -447,6 +450,12 @@ serve-lives id k cpu caller (call.TrcvMbx b timeout) spares was =
     leaves-row (Living id) (trcv_mbx k caller b timeout) (λ (it : MailboxState) passes. message-lives id k caller b timeout (next_message it) was)
 serve-lives id k cpu caller (call.RefMpf p word) spares was = leaves-row (Living id) (ref_mpf k p word) (λ (it : PoolState) passes. was)
 serve-lives id k cpu caller (call.RefMbx b word) spares was = leaves-row (Living id) (ref_mbx k b word) (λ (it : MailboxState) passes. was)
+serve-lives id k cpu caller (call.StaCyc c) spares was = leaves-row (Living id) (sta_cyc k c) (λ (it : Timer) passes. was)
+serve-lives id k cpu caller (call.StpCyc c) spares was = leaves-row (Living id) (stp_cyc k c) (λ (it : Timer) passes. was)
+serve-lives id k cpu caller (call.StaAlm a time) spares was = leaves-row (Living id) (sta_alm k a time) (λ (it : Timer) passes. was)
+serve-lives id k cpu caller (call.StpAlm a) spares was = leaves-row (Living id) (stp_alm k a) (λ (it : Timer) passes. was)
+serve-lives id k cpu caller (call.RefCyc c word) spares was = leaves-row (Living id) (ref_cyc k c word) (λ (it : Timer) passes. was)
+serve-lives id k cpu caller (call.RefAlm a word) spares was = leaves-row (Living id) (ref_alm k a word) (λ (it : Timer) passes. was)
 
 -- Then tasks are given the priorities that they are to have.
 
@@ -636,8 +645,9 @@ on-lives id b Tick off other never was =
     let now : KernelState = record b.kernel { time = advanced b.kernel.time } in
     let ids : List ℕ = due_from (advanced b.kernel.time) 0 in
     either-lives id (nat_lt b.kernel.time.count last_count) _ _
-    (all-prioritized-lives id (all_timed_out now ids) (all-timed-lives id now ids was)) was
-on-lives id b (Raise line) off other never was = either-lives id (is_some (line_at b.kernel line).handler) _ _ was was
+    (rung-keeps (LivesIn id) (prioritized (all_timed_out now ids)) (λ x timers lines lives. lives)
+    (all-prioritized-lives id (all_timed_out now ids) (all-timed-lives id now ids was))) was
+on-lives id b (Raise line) off other never was = either-lives id (can_be_raised b.kernel line) _ _ was was
 
 off-lives : (id : ℕ) (b : BoardState) (event : Event) (off : Bool) → b.kernel.off ≡ off → (Executes b event (agents.Task id) → ⊥) →
     (Terminates b event id → ⊥) → LivesIn id b.kernel → LivesIn id (if off then reported b report.Off else happens_on b event).board.kernel

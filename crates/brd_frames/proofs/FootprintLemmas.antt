@@ -18,7 +18,7 @@ use Rattle.brd_exec.specs.Step.{Effect, with_code, load_gives, next_instruction,
 use Rattle.brd_time.specs.Time.{last_count}
 use Rattle.brd_kernel.specs.declared.processor.Processor.{Processor}
 use Rattle.brd_kernel.specs.declared.processor.Executor.{Executor}
-use Rattle.brd_kernel.specs.Kernel.{processor_at, executor_on, context_of, context_on, deliverable, line_at}
+use Rattle.brd_kernel.specs.Kernel.{processor_at, executor_on, context_of, context_on, deliverable, can_be_raised}
 use Rattle.brd_board.specs.Executing.{executed_by, executed_in}
 use Rattle.brd_board.specs.declared.event.Event.{Event}
 use Rattle.brd_board.specs.declared.event.Event.TheVariants.{Step, Tick, Raise}
@@ -289,7 +289,7 @@ on-changed change b (Step cpu) on clear =
     (λ who executes none.
     subst (λ by. IsClearOf change (λ address. touched_in by b.memory address)) (executing-is b cpu who on executes none) clear)
 on-changed change b Tick on clear = if-changed change _ _ (nat_lt b.kernel.time.count last_count) _ _ refl refl
-on-changed change b (Raise line) on clear = if-changed change _ _ (is_some (line_at b.kernel line).handler) _ _ refl refl
+on-changed change b (Raise line) on clear = if-changed change _ _ (can_be_raised b.kernel line) _ _ refl refl
 
 off-changed : (change : Change) (b : BoardState) (event : Event) (off : Bool) → b.kernel.off ≡ off → IsClearOf change (is_touched b event) →
     (if off then reported (with_change b change) report.Off else happens_on (with_change b change) event)

@@ -1,6 +1,6 @@
 -- An event does the same where the contexts of agents that it is apart from are other ones.
 use Rattle.std.proofs.Common.{◌≡◌, ℕ, Bool, true, false, List, [], ◌∷◌, refl, sym, ap, subst, ◌∙◌}
-use Rattle.std.specs.Prelude.{if◌then◌else◌, not, ◌||◌, nat_lt, slice_set, Option, None, Some, is_some, is_ok, Ok}
+use Rattle.std.specs.Prelude.{if◌then◌else◌, not, ◌||◌, nat_lt, slice_set, Option, None, Some, is_ok, Ok}
 use Rattle.std.specs.Option.{option_map}
 use Rattle.std.proofs.lemmas.Bool.{true≢false, false≢true}
 use Rattle.std.proofs.lemmas.List.{get_or-set_other, set_comm}
@@ -16,7 +16,7 @@ use Rattle.brd_kernel.specs.declared.processor.Processor.{Processor}
 use Rattle.brd_kernel.specs.declared.processor.Executor.{Executor}
 use Rattle.brd_kernel.specs.declared.processor.Executor.TheVariants as executor
 use Rattle.brd_kernel.specs.declared.call.Call.{Call}
-use Rattle.brd_kernel.specs.Kernel.{KernelState, processor_at, executor_on, context_of, with_context_of, context_on, deliverable, handles, accepted_line, entry_of, line_at, with_pending, accepts}
+use Rattle.brd_kernel.specs.Kernel.{KernelState, processor_at, executor_on, context_of, with_context_of, context_on, deliverable, handles, accepted_line, entry_of, line_at, can_be_raised, with_pending, accepts}
 use Rattle.brd_kernel.specs.Waits.{ticked_on}
 use Rattle.brd_kernel.specs.Dispatch.{changed_processors}
 use Rattle.brd_kernel.specs.Services.{caller_on, serve_by}
@@ -29,8 +29,8 @@ use Rattle.brd_board.specs.declared.event.Report.TheVariants as report
 use Rattle.brd_board.specs.Board.{BoardState, Happened, reported, then_dispatched, with_executed, with_call, with_fault, instruction_done, executes_in, accepts_or_executes, stepped_in, happens_on, happens, after}
 use Rattle.brd_frames.specs.Steady.{is_waiting_task}
 use Rattle.brd_frames.specs.Agents as agents
-use Rattle.brd_frames.specs.Agents.{Agent, agent_by, agent_on, with_context_in, with_agent, happened_with}
-use Rattle.brd_frames.specs.Apart.{is_handling, is_steady, Calls, starts, Starts, Executes, IsApart, AreApart}
+use Rattle.brd_frames.specs.Agents.{Agent, agent_by, with_agent, happened_with}
+use Rattle.brd_frames.specs.Apart.{is_handling, is_steady, starts, Starts, Executes, IsApart, AreApart}
 use Rattle.brd_frames.proofs.TableLemmas.{Contexts, At, Unsteady}
 use Rattle.brd_frames.proofs.KernelLemmas.{k-with, ticked-with, fault-with, dispatched-with}
 use Rattle.brd_frames.proofs.ServiceLemmas.{AtExecutor}
@@ -176,7 +176,7 @@ on-with : (f g : Contexts) (b : BoardState) (event : Event) → EventFrees f g b
     happens_on (b-with f g b) event ≡ h-with f g (happens_on b event)
 on-with f g b (Step cpu) free = stepped-with f g b cpu (processor_at b.kernel cpu) free
 on-with f g b Tick free = tick-with f g b (nat_lt b.kernel.time.count last_count) free
-on-with f g b (Raise line) free = raise-with f g b line (is_some (line_at b.kernel line).handler)
+on-with f g b (Raise line) free = raise-with f g b line (can_be_raised b.kernel line)
 
 off-with : (f g : Contexts) (b : BoardState) (event : Event) (off : Bool) → (off ≡ false → EventFrees f g b event) →
     (if off then reported (b-with f g b) report.Off else happens_on (b-with f g b) event)

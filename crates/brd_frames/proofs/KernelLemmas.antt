@@ -17,7 +17,7 @@ use Rattle.brd_objects.specs.Table.{object_at, object_changed}
 use Rattle.brd_kernel.specs.declared.processor.Processor.{Processor}
 use Rattle.brd_kernel.specs.Answer.{e_ok}
 use Rattle.brd_kernel.specs.Kernel.{KernelState, with_tasks, with_processor, processor_at, unmarked}
-use Rattle.brd_kernel.specs.Waits.{Change, changed_of, changed_for, leaving, moving, unlisted, reason_of, released_in, broken_off, ended_in, answer_by, timed_out, all_timed_out, ticked_on, faulted_task, faulted_in, ended_by_fault}
+use Rattle.brd_kernel.specs.Waits.{Change, changed_of, changed_for, leaving, moving, unlisted, reason_of, released_in, broken_off, ended_in, answer_by, timed_out, all_timed_out, rung_at, rung_below, rung, ticked_on, faulted_task, faulted_in, ended_by_fault}
 use Rattle.brd_kernel.specs.Waits.{with_released, has_mutex_in, given_in, given_by_in, given_below, all_given_in, quits_in}
 use Rattle.brd_kernel.specs.Waits.{base_in, bases_below, ceiling_in, ceilings_below, inheritor_of, inheritor_for, inheritors_below, priorities_of, lifted_in, prioritized_by, prioritized_below, prioritized}
 use Rattle.brd_kernel.specs.Dispatch.{dispatched_one, dispatched_from, dispatched}
@@ -148,11 +148,22 @@ if-priorities-with f g k false = refl
 pub priorities-given-with : (f g : Contexts) (k : KernelState) → prioritized (k-with f g k) ≡ k-with f g (prioritized k)
 priorities-given-with f g k = if-priorities-with f g k k.standard
 
+rung-below-with : (f g : Contexts) (k : KernelState) (place : ℕ) → rung_below (k-with f g k) place ≡ k-with f g (rung_below k place)
+unfolding rung_below
+rung-below-with f g k zero = refl
+rung-below-with f g k (suc place) = ap (λ (x : KernelState). rung_at x place) (rung-below-with f g k place)
+
+rung-with : (f g : Contexts) (k : KernelState) (standard : Bool) →
+    (if standard then rung_below (k-with f g k) 128 else k-with f g k) ≡ k-with f g (if standard then rung_below k 128 else k)
+rung-with f g k true = rung-below-with f g k 128
+rung-with f g k false = refl
+
 pub ticked-with : (f g : Contexts) (k : KernelState) (time : Time) → Unsteady f k.tasks →
     ticked_on (k-with f g k) time ≡ k-with f g (ticked_on k time)
 ticked-with f g k time free =
-    ap prioritized (all-timed-with f g (record k { time = time }) (due_from time 0) free)
-    ∙ priorities-given-with f g (all_timed_out (record k { time = time }) (due_from time 0))
+    let ended : KernelState = all_timed_out (record k { time = time }) (due_from time 0) in
+    ap (λ (x : KernelState). rung (prioritized x)) (all-timed-with f g (record k { time = time }) (due_from time 0) free)
+    ∙ ap rung (priorities-given-with f g ended) ∙ rung-with f g (prioritized ended) (prioritized ended).standard
 
 -- Mutexes that are given back.
 

@@ -1,37 +1,31 @@
 -- Boards that lag behind others, and what events do to both.
-use Rattle.std.proofs.Common.{◌≡◌, ℕ, zero, suc, ◌+◌, ◌-◌, ◌<◌, ◌≤◌, Bool, true, false, not, List, [], ◌∷◌, ◌++◌, length, refl, sym, ap, subst, ◌∙◌, arith}
-use Rattle.std.specs.Prelude.{◌==◌, ◌&&◌, ◌||◌, if◌then◌else◌, slice_index, slice_index_or, slice_set, Option, None, Some, IfSome, is_some, is_ok, Result, Ok, Err}
+use Rattle.std.proofs.Common.{◌≡◌, ℕ, zero, suc, ◌+◌, ◌-◌, ◌<◌, ◌≤◌, Bool, true, false, List, [], ◌∷◌, length, refl, sym, ap, subst, ◌∙◌, arith}
+use Rattle.std.specs.Prelude.{◌||◌, if◌then◌else◌, slice_set, Option, None, Some, IfSome, is_some, is_ok}
 use Rattle.std.specs.Option.{option_map}
 use Rattle.std.proofs.lemmas.Bool.{false≢true, true≢false, eqb-true, eq-eqb}
-use Rattle.std.proofs.lemmas.Bool.Decides.{nat_tests}
 use Rattle.std.proofs.lemmas.List.{get_or-set_other, set_comm}
 use Rattle.brd_base.specs.Space.{base}
-use Rattle.brd_isa.specs.declared.instruction.Insn.{Insn}
 use Rattle.brd_mem.specs.Memory.{Memory, size_of, with_bytes}
-use Rattle.brd_exec.specs.declared.outcome.ExceptionCode.{ExceptionCode}
 use Rattle.brd_exec.specs.State.{State}
-use Rattle.brd_exec.specs.Step.{next_instruction}
 use Rattle.brd_tasks.specs.declared.task.Task.{Task}
 use Rattle.brd_tasks.specs.Tasks.{no_context, task_at}
 use Rattle.brd_kernel.specs.declared.processor.Executor.{Executor}
-use Rattle.brd_kernel.specs.declared.processor.Executor.TheVariants as executor
 use Rattle.brd_kernel.specs.Kernel.{KernelState, deliverable, executor_on, context_of, context_on}
 use Rattle.brd_kernel.specs.declared.call.Call.{Call}
 use Rattle.brd_kernel.specs.Services.{caller_on, serve_by}
 use Rattle.brd_sysgate.specs.Gate.{caller_of, read_of}
 use Rattle.brd_board.specs.declared.event.Event.{Event}
 use Rattle.brd_board.specs.declared.event.Event.TheVariants.{Step, Tick, Raise}
-use Rattle.brd_board.specs.declared.event.Report.TheVariants as report
-use Rattle.brd_board.specs.Board.{BoardState, Happened, happens, registers_of}
+use Rattle.brd_board.specs.Board.{BoardState, Happened, happens}
 use Rattle.brd_frames.specs.Agents as agents
-use Rattle.brd_frames.specs.Agents.{Agent, agent_by, agent_on, context_in, with_context_in, with_agent, happened_with}
-use Rattle.brd_frames.specs.Apart.{is_steady, Calls, starts, Starts, Executes, IsApart}
-use Rattle.brd_frames.specs.Touching.{is_among, accesses_next, touches, stores, stores_next, Agree, executing, touched_in, stored_in, is_touched, is_stored, Change, changed, with_change, LeavesAlone, IsClearOf, put_at}
+use Rattle.brd_frames.specs.Agents.{Agent, agent_by, context_in, with_context_in, with_agent}
+use Rattle.brd_frames.specs.Apart.{is_steady, starts, Starts, Executes, IsApart}
+use Rattle.brd_frames.specs.Touching.{is_among, accesses_next, touches, stores, stores_next, Agree, executing, touched_in, stored_in, is_touched, Change, changed, with_change, LeavesAlone, IsClearOf, put_at}
 use Rattle.brd_frames.specs.Going.{Gone, goes, with_gone}
 use Rattle.brd_frames.specs.Commuting.{agent_goes, IsIndependent}
 use Rattle.brd_frames.specs.Lagging.{Sharing, Keeps, StaysUnseen, IsInvisible, Lags, Path, is_same_agent, without}
 use Rattle.brd_frames.proofs.DeedLemmas.{next-same}
-use Rattle.brd_frames.proofs.FootprintLemmas.{PutsAt, with-bytes-is, put-change, put-clear, put-keeps, put-length, stores-touches, Outside}
+use Rattle.brd_frames.proofs.FootprintLemmas.{PutsAt, with-bytes-is, put-change, put-clear, put-keeps, put-length, stores-touches}
 use Rattle.brd_frames.proofs.CallLemmas.{starts-with}
 use Rattle.brd_frames.proofs.FrameLemmas.{frame}
 use Rattle.brd_frames.proofs.GoingLemmas.{Puts, goes-puts, context-by}

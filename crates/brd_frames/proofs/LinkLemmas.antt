@@ -1,6 +1,6 @@
 -- What events do to links, and what links do to events.
 use Rattle.std.proofs.Common.{◌≡◌, ℕ, Bool, true, false, not, List, refl, sym, ap, subst, ◌∙◌, arith}
-use Rattle.std.specs.Prelude.{◌==◌, ◌||◌, ◌&&◌, if◌then◌else◌, nat_lt, Option, None, Some, is_some, Result, Ok, Err}
+use Rattle.std.specs.Prelude.{◌==◌, ◌||◌, ◌&&◌, if◌then◌else◌, nat_lt, Option, None, Some, Result, Ok, Err}
 use Rattle.std.specs.List.{list_any}
 use Rattle.std.proofs.lemmas.Bool.{false≢true, ne_eqb, eq-eqb}
 use Rattle.std.proofs.lemmas.Bool.Decides.{nat_tests}
@@ -18,7 +18,7 @@ use Rattle.brd_exec.specs.Step.{Effect, unless_stopped, stores as storing_to, lo
 use Rattle.brd_time.specs.Time.{last_count, advanced}
 use Rattle.brd_kernel.specs.declared.processor.Processor.{Processor}
 use Rattle.brd_kernel.specs.declared.processor.Executor.{Executor}
-use Rattle.brd_kernel.specs.Kernel.{processor_at, executor_on, context_of, deliverable, accepted_line, line_at, with_pending}
+use Rattle.brd_kernel.specs.Kernel.{processor_at, executor_on, context_of, deliverable, accepted_line, can_be_raised, with_pending}
 use Rattle.brd_kernel.specs.Waits.{ticked_on}
 use Rattle.brd_kernel.specs.Dispatch.{dispatched, changed_processors}
 use Rattle.brd_board.specs.Executing.{executed_by, executed_in}
@@ -345,7 +345,7 @@ on-alike b links Tick same =
     (dispatched-alike b.links links (record b { kernel = ticked_on b.kernel (advanced b.kernel.time) }) links report.Ticked (same-follows b.links links))
     (reported-alike b links report.TimeOver)
 on-alike b links (Raise line) same =
-    either-alike b.links links (is_some (line_at b.kernel line).handler) _ _ _ _
+    either-alike b.links links (can_be_raised b.kernel line) _ _ _ _
     (reported-alike (record b { kernel = with_pending b.kernel line }) links report.Raised) (reported-alike b links report.NoSuch)
 
 happens-alike : (b : BoardState) (links : LinkSet) (event : Event) → ((cpu : ℕ) → event ≡ Step cpu → AreSameOf cpu b.links links) →

@@ -24,16 +24,16 @@ use Rattle.brd_objects.specs.Table.{object_at, object_changed}
 use Rattle.brd_objects.specs.Semaphores.{returned, first_waiter}
 use Rattle.brd_objects.specs.Flags.{joined, all_released, with_all_released}
 use Rattle.brd_objects.specs.DataQueues.{DataQueueState, sent, outcome, forced, forced_outcome, received}
-use Rattle.brd_objects.specs.declared.mutex.Mutex.{Mutex}
 use Rattle.brd_objects.specs.Mutexes.{given, next_owner_in}
 use Rattle.brd_objects.specs.Pools.{PoolState, given_back, next_holder}
 use Rattle.brd_objects.specs.Mailboxes.{MailboxState, message_sent, message_outcome}
+use Rattle.brd_kernel.proofs.RingLemmas.{rung-keeps}
 use Rattle.brd_kernel.specs.declared.processor.Processor.{Processor}
 use Rattle.brd_kernel.specs.declared.processor.Executor.{Executor}
 use Rattle.brd_kernel.specs.declared.processor.Executor.TheVariants as executor
 use Rattle.brd_kernel.specs.declared.call.Call.{Call}
 use Rattle.brd_kernel.specs.Answer.{e_ok}
-use Rattle.brd_kernel.specs.Kernel.{KernelState, processor_at, with_tasks, executor_on, context_of, with_context_of, deliverable, handles, entry_of, line_at}
+use Rattle.brd_kernel.specs.Kernel.{KernelState, processor_at, with_tasks, executor_on, context_of, with_context_of, deliverable, handles, entry_of, line_at, can_be_raised}
 use Rattle.brd_kernel.specs.Waits.{can_wait, with_wait, released_in, reason_of, unlisted, broken_off, ended_in, answer_by, timed_out, all_timed_out, ticked_on, faulted_task, faulted_in, Change, changed_of, changed_for, leaving, moving, with_released, given_in, all_given_in, quits_in, prioritized}
 use Rattle.brd_kernel.specs.Services.{unmarked_on, with_all_released_in, with_satisfied_of, handed_over, released_with_second, message_of, caller_on}
 use Rattle.brd_kernel.proofs.PricedLemmas.{priced, priced_in}
@@ -273,6 +273,7 @@ rooms-law Known k cpu caller = record {
   writes = λ word. record { tasks = refl; handlers = refl };
   ends_all = record { tasks = refl; handlers = refl };
   sets_clock = λ clock. record { tasks = refl; handlers = refl };
+  sets_timers = λ timers. record { tasks = refl; handlers = refl };
 }
 
 -- Events.
@@ -332,7 +333,9 @@ stepped-rooms b cpu (Some p) =
 ticked-rooms : (k : KernelState) → Rooms (ticked_on k (advanced k.time)) k
 ticked-rooms k =
     let time : Time = advanced k.time in
-    prioritized-rooms k _ (via (all-timed-rooms (record k { time = time }) (due_from time 0)) refl refl)
+    let ended : KernelState = all_timed_out (record k { time = time }) (due_from time 0) in
+    rung-keeps (λ new. Rooms new k) (prioritized ended) (λ x timers lines same. record { tasks = same.tasks; handlers = same.handlers })
+    (prioritized-rooms k ended (via (all-timed-rooms (record k { time = time }) (due_from time 0)) refl refl))
 
 on-rooms : (b : BoardState) (event : Event) → Rooms (happens_on b event).board.kernel b.kernel
 on-rooms b (Step cpu) = stepped-rooms b cpu (processor_at b.kernel cpu)
@@ -340,7 +343,7 @@ on-rooms b Tick =
     either-rooms b.kernel (nat_lt b.kernel.time.count last_count) _ _
     (let it = ticked-rooms b.kernel in record { tasks = it.tasks; handlers = it.handlers }) (rooms-same b.kernel)
 on-rooms b (Raise line) =
-    either-rooms b.kernel (is_some (line_at b.kernel line).handler) _ _ (record { tasks = refl; handlers = refl }) (rooms-same b.kernel)
+    either-rooms b.kernel (can_be_raised b.kernel line) _ _ (record { tasks = refl; handlers = refl }) (rooms-same b.kernel)
 
 pub happens-rooms : (b : BoardState) (event : Event) → Rooms (happens b event).board.kernel b.kernel
 unfolding happens

@@ -24,6 +24,8 @@ use Rattle.brd_objects.specs.DataQueues.{DataQueueState, sent, outcome, forced, 
 use Rattle.brd_objects.specs.declared.mutex.Mutex.{Mutex}
 use Rattle.brd_objects.specs.Pools.{PoolState, block_for, given_back, next_holder}
 use Rattle.brd_objects.specs.Mailboxes.{MailboxState, message_sent, message_outcome, next_message}
+use Rattle.brd_timers.specs.declared.timer.Timer.{Timer}
+use Rattle.brd_kernel.specs.Services.{sta_cyc, stp_cyc, sta_alm, stp_alm, ref_cyc, ref_alm, timer_words}
 use Rattle.brd_kernel.specs.declared.processor.Processor.{Processor}
 use Rattle.brd_kernel.specs.declared.processor.Spin.{Spin}
 use Rattle.brd_kernel.specs.declared.processor.Executor.{Executor}
@@ -36,7 +38,7 @@ use Rattle.brd_kernel.specs.declared.call.Reply.{Reply}
 use Rattle.brd_kernel.specs.declared.call.Reply.TheVariants.{Answer, Silent, Again}
 use Rattle.brd_kernel.specs.Answer.{e_ok, code_of}
 use Rattle.brd_kernel.specs.Kernel.{KernelState, processor_at, with_tasks, with_processor, holding, letting_go, executor_in, executor_on}
-use Rattle.brd_kernel.specs.Waits.{due_after, due_by, can_wait, with_wait, released_in, reordered_in, with_released, has_mutex_in, quits_in, prioritized}
+use Rattle.brd_kernel.specs.Waits.{due_after, due_by, can_wait, with_wait, released_in, reordered_in, has_mutex_in, quits_in}
 use Rattle.brd_kernel.specs.Row.{Row, Served, refused, served_object, served, ok, silent}
 use Rattle.brd_kernel.specs.Services.{named, act_tsk, can_act, ext_tsk, ter_tsk, chg_pri, get_pri, mact_tsk, mig_tsk, get_pid, rot_rdq, irot_rdq, get_tid, mark_dsp, mark_cpu, tslp_tsk, wup_tsk, can_wup, rel_wai, sus_tsk, rsm_tsk, dly_tsk, sig_sem, twai_sem, set_flg, clr_flg, twai_flg, tsnd_dtq, fsnd_dtq, trcv_dtq, put_chr, ext_ker, ret_int, loc_spn, try_spn, unl_spn, get_tim, set_tim, sns, mget_tid, mrot_rdq, ref_tsk, ref_sem, ref_flg, ref_dtq, tloc_mtx, unl_mtx, ref_mtx, tget_mpf, rel_mpf, snd_mbx, trcv_mbx, ref_mpf, ref_mbx}
 use Rattle.brd_kernel.specs.Services.{bit_word, sensed, system_time, id_or_none, task_words, semaphore_words, flag_words, queue_words, mutex_words, pool_words, mailbox_words}
@@ -45,7 +47,7 @@ use Rattle.brd_kernel.specs.Services.{is_held_elsewhere, is_no_processor, is_asl
 use Rattle.brd_kernel.proofs.SameLemmas.{Same, same-quits, same-given, same-prioritized, same-broken, same-reordered, same-satisfied, same-released, same-handed, same-second}
 use Rattle.brd_kernel.proofs.WalkLemmas.{in_semaphore, in_flag, in_senders, in_receivers, in_mutex, in_pool, in_mailbox}
 use Rattle.brd_frames.specs.Apart.{starts}
-use Rattle.brd_frames.proofs.TableLemmas.{Contexts, t-with, At, Unsteady, Restarted, through-with, changed-with, noted-with, activated-with, released-free}
+use Rattle.brd_frames.proofs.TableLemmas.{Contexts, t-with, At, Unsteady, through-with, changed-with, noted-with, activated-with, released-free}
 use Rattle.brd_frames.proofs.KernelLemmas.{k-with, set-same-some, changed_for-with, released_in-with, broken-with, released-if-with, given_in-with, quits_in-with, priorities-given-with}
 
 -- the contexts of who executes on a processor are left alone
@@ -499,6 +501,14 @@ serve-alike f g k cpu caller (call.RefMpf p word) free =
     row (ref_mpf k p word) _ (λ (it : PoolState) passed. answers _ _ e_ok (Some (slice_index (pool_words it) word)) refl refl)
 serve-alike f g k cpu caller (call.RefMbx b word) free =
     row (ref_mbx k b word) _ (λ (it : MailboxState) passed. answers _ _ e_ok (Some (slice_index (mailbox_words it) word)) refl refl)
+serve-alike f g k cpu caller (call.StaCyc c) free = row (sta_cyc k c) _ (λ (it : Timer) passed. answers _ _ e_ok None refl refl)
+serve-alike f g k cpu caller (call.StpCyc c) free = row (stp_cyc k c) _ (λ (it : Timer) passed. answers _ _ e_ok None refl refl)
+serve-alike f g k cpu caller (call.StaAlm a time) free = row (sta_alm k a time) _ (λ (it : Timer) passed. answers _ _ e_ok None refl refl)
+serve-alike f g k cpu caller (call.StpAlm a) free = row (stp_alm k a) _ (λ (it : Timer) passed. answers _ _ e_ok None refl refl)
+serve-alike f g k cpu caller (call.RefCyc c word) free =
+    row (ref_cyc k c word) _ (λ (it : Timer) passed. answers _ _ e_ok (Some (slice_index (timer_words k.time.count it) word)) refl refl)
+serve-alike f g k cpu caller (call.RefAlm a word) free =
+    row (ref_alm k a word) _ (λ (it : Timer) passed. answers _ _ e_ok (Some (slice_index (timer_words k.time.count it) word)) refl refl)
 
 -- Then tasks are given the priorities that they are to have.
 

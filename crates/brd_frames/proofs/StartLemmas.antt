@@ -1,6 +1,6 @@
 -- An event that starts a task does the same whatever the task's context was.
-use Rattle.std.proofs.Common.{◌≡◌, ℕ, Bool, true, false, List, refl, sym, ap, subst, ◌∙◌, inl, inr}
-use Rattle.std.specs.Prelude.{zero, suc, if◌then◌else◌, ◌==◌, ◌&&◌, slice_index_or, slice_set, Option, None, Some, is_some, is_ok, Result, Ok, Err}
+use Rattle.std.proofs.Common.{◌≡◌, ℕ, Bool, true, false, refl, sym, ap, subst, ◌∙◌, inl, inr}
+use Rattle.std.specs.Prelude.{zero, suc, if◌then◌else◌, ◌==◌, slice_set, Option, None, Some, is_some, is_ok, Result, Ok, Err}
 use Rattle.std.specs.Option.{option_map}
 use Rattle.std.proofs.lemmas.Bool.{false≢true, and_parts, eqb-true, cases_eq}
 use Rattle.std.proofs.lemmas.List.{set-set}
@@ -30,16 +30,16 @@ use Rattle.brd_kernel.specs.Answer.{e_ok}
 use Rattle.brd_kernel.specs.Waits.{unlisted, ended_in, with_released, has_mutex_in, given_in, given_by_in, given_below, all_given_in, quits_in}
 use Rattle.brd_kernel.specs.Row.{Row, Served, refused, served_object, served, ok, or_refused}
 use Rattle.brd_kernel.specs.Services.{is_held_elsewhere, is_no_processor, named, act_tsk, mact_tsk, ter_tsk, caller_on, serve_by, with_priorities, serve_of, comes_again}
-use Rattle.brd_sysgate.specs.Gate.{read_of, caller_of, served_call, changed_in, with_changed_context, replied, is_again, called_for, called_in, called}
+use Rattle.brd_sysgate.specs.Gate.{read_of, caller_of, served_call, changed_in, with_changed_context, replied, called_for, called_in, called}
 use Rattle.brd_board.specs.Executing.{executed_by, executed_in}
 use Rattle.brd_board.specs.declared.event.Event.{Event}
 use Rattle.brd_board.specs.declared.event.Event.TheVariants.{Step}
 use Rattle.brd_board.specs.declared.event.Report.TheVariants as report
-use Rattle.brd_board.specs.Board.{BoardState, Happened, reported, then_dispatched, with_executed, instruction_done, executes_in, accepts_or_executes, stepped_in, stepped, happens_on, happens}
+use Rattle.brd_board.specs.Board.{BoardState, reported, then_dispatched, with_executed, instruction_done, executes_in, accepts_or_executes, stepped_in, stepped, happens}
 use Rattle.brd_frames.specs.Agents as agents
 use Rattle.brd_frames.specs.Agents.{Agent, agent_by, with_agent}
-use Rattle.brd_frames.specs.Apart.{Calls, starts, Starts, Executes}
-use Rattle.brd_frames.proofs.TableLemmas.{Contexts, t-with, At, released-at-with, queued_in}
+use Rattle.brd_frames.specs.Apart.{starts, Starts, Executes}
+use Rattle.brd_frames.proofs.TableLemmas.{Contexts, t-with, released-at-with, queued_in}
 use Rattle.brd_frames.proofs.KernelLemmas.{k-with, unlisted-with, all-given-queued}
 use Rattle.brd_frames.proofs.ServiceLemmas.{AtExecutor, Passed}
 use Rattle.brd_frames.proofs.CallLemmas.{context-with, put-same, changed-with, starts-put}

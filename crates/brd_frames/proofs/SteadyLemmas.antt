@@ -1,6 +1,6 @@
 -- An agent that an event is apart from stays steady.
-use Rattle.std.proofs.Common.{◌≡◌, ℕ, ◌+◌, ◌%◌, ◌^◌, Bool, true, false, not, List, [], ◌∷◌, ◌++◌, refl, sym, ap, subst, ◌∙◌, inl, inr}
-use Rattle.std.specs.Prelude.{zero, suc, ◌==◌, ◌||◌, ◌&&◌, if◌then◌else◌, nat_lt, slice_index_or, slice_set, Option, None, Some, is_some, is_ok, unwrap_or, Result, Ok, Err}
+use Rattle.std.proofs.Common.{◌≡◌, ℕ, ◌+◌, Bool, true, false, not, List, [], ◌∷◌, refl, sym, ap, subst, ◌∙◌, inl, inr}
+use Rattle.std.specs.Prelude.{zero, suc, ◌||◌, if◌then◌else◌, nat_lt, slice_index_or, slice_set, Option, None, Some, is_some}
 use Rattle.std.specs.Option.{option_map}
 use Rattle.std.proofs.lemmas.Bool.{false≢true, true≢false, cases_eq, not-true}
 use Rattle.std.proofs.lemmas.List.{get_or-set_other}
@@ -16,8 +16,8 @@ use Rattle.brd_tasks.specs.declared.status.WaitReason.TheVariants as reason
 use Rattle.brd_tasks.specs.declared.task.Task.{Task}
 use Rattle.brd_tasks.specs.declared.task.Request.{Request}
 use Rattle.brd_tasks.specs.Status.{waiting_of, is_dormant, is_waiting, released, blocked, suspended, resumed}
-use Rattle.brd_tasks.specs.Tasks.{TaskTable, task_at, ready_on, first_id, started, processor_of, placed, patched, where_there, starts, activated, ended_by, ended, put_into, through, released_to, released_with, changed, noted, turned, on_processor, with_wakeup, without_activation}
-use Rattle.brd_time.specs.Time.{Time, last_count, advanced, due_from}
+use Rattle.brd_tasks.specs.Tasks.{TaskTable, task_at, ready_on, first_id, started, processor_of, where_there, starts, activated, ended_by, ended, put_into, through, released_to, released_with, changed, noted, on_processor, with_wakeup, without_activation}
+use Rattle.brd_time.specs.Time.{last_count, advanced, due_from}
 use Rattle.brd_objects.specs.declared.flag.Flag.{Flag}
 use Rattle.brd_objects.specs.declared.semaphore.Semaphore.{Semaphore}
 use Rattle.brd_objects.specs.declared.sent.Sent.{Sent}
@@ -27,24 +27,25 @@ use Rattle.brd_objects.specs.Table.{object_at, object_changed}
 use Rattle.brd_objects.specs.Semaphores.{returned, first_waiter}
 use Rattle.brd_objects.specs.Flags.{joined, all_released, with_all_released}
 use Rattle.brd_objects.specs.DataQueues.{DataQueueState, sent, outcome, forced, forced_outcome, received}
-use Rattle.brd_objects.specs.declared.mutex.Mutex.{Mutex}
 use Rattle.brd_objects.specs.Mutexes.{given, next_owner_in}
 use Rattle.brd_objects.specs.Pools.{PoolState, given_back, next_holder}
 use Rattle.brd_objects.specs.Mailboxes.{MailboxState, message_sent, message_outcome}
+use Rattle.brd_kernel.proofs.RingLemmas.{rung-keeps}
+use Rattle.brd_kernel.specs.Waits.{rung}
 use Rattle.brd_kernel.specs.declared.processor.Processor.{Processor}
 use Rattle.brd_kernel.specs.declared.processor.Executor.{Executor}
 use Rattle.brd_kernel.specs.declared.processor.Executor.TheVariants as executor
 use Rattle.brd_kernel.specs.declared.call.Call.{Call}
 use Rattle.brd_kernel.specs.Answer.{e_ok}
-use Rattle.brd_kernel.specs.Kernel.{KernelState, processor_at, is_held, with_tasks, with_processor, unmarked, running_in, executor_by, executor_in, executor_on, context_of, with_context_of, deliverable, pending_from, accepts, handles, accepted_line, line_at, with_pending}
-use Rattle.brd_kernel.specs.Waits.{can_wait, with_wait, released_in, reason_of, unlisted, broken_off, answer_by, timed_out, all_timed_out, ticked_on, faulted_task, faulted_in, ended_by_fault, with_released, given_in, all_given_in, quits_in, prioritized}
+use Rattle.brd_kernel.specs.Kernel.{KernelState, processor_at, is_held, with_tasks, unmarked, executor_by, executor_in, executor_on, context_of, with_context_of, deliverable, pending_from, accepts, handles, accepted_line, can_be_raised}
+use Rattle.brd_kernel.specs.Waits.{can_wait, with_wait, released_in, reason_of, unlisted, broken_off, answer_by, timed_out, all_timed_out, faulted_task, faulted_in, ended_by_fault, with_released, given_in, all_given_in, quits_in, prioritized}
 use Rattle.brd_kernel.specs.Dispatch.{dispatched_one, dispatched_from, dispatched}
-use Rattle.brd_kernel.specs.Services.{with_all_released_in, with_satisfied_of, handed_over, released_with_second, message_of, unmarked_on, handler_ended, serve_of, caller_on}
+use Rattle.brd_kernel.specs.Services.{with_all_released_in, with_satisfied_of, handed_over, released_with_second, message_of, unmarked_on, caller_on}
 use Rattle.brd_kernel.proofs.WaitLemmas.{unlisted-only, reordered-only}
 use Rattle.brd_kernel.proofs.PricedLemmas.{priced, priced_in}
 use Rattle.brd_kernel.proofs.SettledLemmas.{Settles, all-given, all-prioritized}
-use Rattle.brd_kernel.proofs.WalkLemmas.{Lacks, No-one, lacked, awaiting, Fact, Unheld, Law, serve-leaves}
-use Rattle.brd_kernel.proofs.who_runs.RunningCallLemmas.{known_of, MayServe}
+use Rattle.brd_kernel.proofs.WalkLemmas.{lacked, awaiting, Fact, Unheld, Law, serve-leaves}
+use Rattle.brd_kernel.proofs.who_runs.RunningCallLemmas.{known_of}
 use Rattle.brd_kernel.proofs.SameLemmas.{Same, same-quits, same-timed, same-prioritized, same-law}
 use Rattle.brd_sysgate.specs.Gate.{called}
 use Rattle.brd_board.specs.Executing.{executed_by, executed_in}
@@ -59,7 +60,6 @@ use Rattle.brd_frames.specs.Agents.{Agent, agent_by}
 use Rattle.brd_frames.specs.Apart.{is_handling, is_steady, Executes, IsApart}
 use Rattle.brd_frames.proofs.EndLemmas.{set-cases}
 use Rattle.brd_frames.proofs.FrameLemmas.{handling-accepts}
-use Rattle.brd_frames.proofs.StepLemmas.{deliverable-accepts}
 
 -- the task of an ID doesn't wait
 abbrev Rests : ℕ → TaskTable → Type 0
@@ -288,6 +288,7 @@ rests-law Known id k cpu caller apart was = record {
   writes = λ word. was;
   ends_all = was;
   sets_clock = λ clock. was;
+  sets_timers = λ timers. was;
 }
 
 -- Who waits is the task that executes.
@@ -552,21 +553,28 @@ on-steady b Tick (agents.Task id) off apart =
     let now : KernelState = record b.kernel { time = advanced b.kernel.time } in
     let ids : List ℕ = due_from (advanced b.kernel.time) 0 in
     ap not (either-stays (RestsIn id) (nat_lt b.kernel.time.count last_count) _ _
-    (prioritized-rests id (all_timed_out now ids) (all-timed-rests id now ids (rests-so b.kernel id apart.steady)))
+    (rung-keeps (RestsIn id) (prioritized (all_timed_out now ids)) (λ x timers lines rests. rests)
+    (prioritized-rests id (all_timed_out now ids) (all-timed-rests id now ids (rests-so b.kernel id apart.steady))))
     (rests-so b.kernel id apart.steady))
 on-steady b Tick (agents.Handler at) off apart =
     let now : KernelState = record b.kernel { time = advanced b.kernel.time } in
     let ids : List ℕ = due_from (advanced b.kernel.time) 0 in
     let over : KernelState = all_timed_out now ids in
-    let new : KernelState = prioritized over in
+    let settled : KernelState = prioritized over in
+    let new : KernelState = rung settled in
+    let same-rung : Same new settled =
+    rung-keeps (λ x. Same x settled) settled
+    (λ x timers lines same. record { processors = same.processors; spin_locks = same.spin_locks; standard = same.standard })
+    (record { processors = refl; spin_locks = refl; standard = refl }) in
     either-stays (Works at) (nat_lt b.kernel.time.count last_count) _ _
     (dispatched-works new.tasks 0 at new.processors
-    ∙ ap is_handling (same-elsewhere at new over (same-prioritized over) ∙ same-elsewhere at over now (same-timed now ids))
+    ∙ ap is_handling
+    (same-elsewhere at new settled same-rung ∙ same-elsewhere at settled over (same-prioritized over) ∙ same-elsewhere at over now (same-timed now ids))
     ∙ apart.steady) apart.steady
 on-steady b (Raise line) (agents.Task id) off apart =
-    ap not (either-stays (RestsIn id) (is_some (line_at b.kernel line).handler) _ _ (rests-so b.kernel id apart.steady) (rests-so b.kernel id apart.steady))
+    ap not (either-stays (RestsIn id) (can_be_raised b.kernel line) _ _ (rests-so b.kernel id apart.steady) (rests-so b.kernel id apart.steady))
 on-steady b (Raise line) (agents.Handler at) off apart =
-    either-stays (Works at) (is_some (line_at b.kernel line).handler) _ _ apart.steady apart.steady
+    either-stays (Works at) (can_be_raised b.kernel line) _ _ apart.steady apart.steady
 
 off-steady : (b : BoardState) (event : Event) (who : Agent) (off : Bool) → b.kernel.off ≡ off → IsApart b event who →
     is_steady (if off then reported b report.Off else happens_on b event).board.kernel who ≡ true

@@ -1,6 +1,6 @@
 -- An event leaves the bytes to which it doesn't store.
 use Rattle.std.proofs.Common.{◌≡◌, ℕ, ◌+◌, ◌-◌, ◌≤◌, Bool, true, false, length, refl, sym, ap, subst, ◌∙◌, arith}
-use Rattle.std.specs.Prelude.{if◌then◌else◌, nat_lt, slice_index, Option, None, Some, is_some}
+use Rattle.std.specs.Prelude.{if◌then◌else◌, nat_lt, slice_index, Option, None, Some}
 use Rattle.std.proofs.lemmas.Bool.{false≢true}
 use Rattle.std.proofs.lemmas.Bool.Decides.{nat_tests}
 use Rattle.brd_base.specs.Space.{base}
@@ -13,7 +13,7 @@ use Rattle.brd_exec.specs.Step.{next_instruction, effect, Ran, ended, ran}
 use Rattle.brd_time.specs.Time.{last_count}
 use Rattle.brd_kernel.specs.declared.processor.Processor.{Processor}
 use Rattle.brd_kernel.specs.declared.processor.Executor.{Executor}
-use Rattle.brd_kernel.specs.Kernel.{processor_at, executor_on, context_of, deliverable, line_at}
+use Rattle.brd_kernel.specs.Kernel.{processor_at, executor_on, context_of, deliverable, can_be_raised}
 use Rattle.brd_board.specs.Executing.{executed_by, executed_in}
 use Rattle.brd_board.specs.declared.event.Event.{Event}
 use Rattle.brd_board.specs.declared.event.Event.TheVariants.{Step, Tick, Raise}
@@ -102,7 +102,7 @@ on-keeps b (Step cpu) address on none =
     stepped-keeps b cpu (processor_at b.kernel cpu) address
     (λ who executes free. subst (λ by. stored_in by b.memory address ≡ false) (executing-is b cpu who on executes free) none)
 on-keeps b Tick address on none = either-keeps address b.memory (nat_lt b.kernel.time.count last_count) _ _ refl refl
-on-keeps b (Raise line) address on none = either-keeps address b.memory (is_some (line_at b.kernel line).handler) _ _ refl refl
+on-keeps b (Raise line) address on none = either-keeps address b.memory (can_be_raised b.kernel line) _ _ refl refl
 
 off-keeps : (b : BoardState) (event : Event) (address : ℕ) (off : Bool) → b.kernel.off ≡ off → is_stored b event address ≡ false →
     byte_at (if off then reported b report.Off else happens_on b event).board.memory address ≡ byte_at b.memory address

@@ -1,17 +1,13 @@
 -- Agents that lag: one board is another one on which some agents have yet to do instructions that nobody else can see.
-use Rattle.std.specs.Prelude.{◌≡◌, ℕ, zero, suc, ◌==◌, Bool, true, false, if◌then◌else◌, List, [], ◌∷◌, Option, None}
+use Rattle.std.specs.Prelude.{◌≡◌, ℕ, zero, suc, ◌==◌, Bool, true, false, if◌then◌else◌, List, [], ◌∷◌, Option}
 use Rattle.std.specs.Prelude.{Some, IfSome}
-use Rattle.brd_link.specs.LinkSet.{is_linked, is_same_block}
-use Rattle.brd_kernel.specs.Kernel.{deliverable}
-use Rattle.brd_board.specs.declared.event.Event.{Event}
-use Rattle.brd_board.specs.declared.event.Event.TheVariants.{Step, Tick, Raise}
-use Rattle.brd_board.specs.Board.{BoardState, happens, after}
+use Rattle.brd_board.specs.Board.{BoardState}
 use Rattle.brd_frames.specs.Agents as agents
 use Rattle.brd_frames.specs.Agents.{Agent, context_in}
 use Rattle.brd_frames.specs.Apart.{is_steady}
 use Rattle.brd_frames.specs.Touching.{touches, stores}
-use Rattle.brd_frames.specs.Going.{Gone, goes, IsNext}
-use Rattle.brd_frames.specs.Commuting.{agent_goes, EndsNoLink}
+use Rattle.brd_frames.specs.Going.{Gone, goes}
+use Rattle.brd_frames.specs.Commuting.{agent_goes}
 
 -- What agents may do to each other: which addresses of RAM they share; of each other address, who alone may store to
 -- it; which agents are mortal: others may terminate them; and to which instructions, by their addresses, nobody comes

@@ -1,9 +1,10 @@
 -- Which request a packet makes, as it is read. `specs/Grammar.antt` says the same without reading.
 use Rattle.std.specs.Prelude.{ℕ, ◌+◌, ◌-◌, ◌^◌, ◌==◌, if◌then◌else◌, Bool, true, false, List, [], ◌∷◌, length, take}
-use Rattle.std.specs.Prelude.{drop}
+use Rattle.std.specs.Prelude.{◌++◌, ◌&&◌, nat_le, drop, replicate}
 use Rattle.std.specs.Prelude.{codes, Option, Some, None, option_map, option_and_then}
 use Rattle.std.specs.List.{slice_split}
 use Rattle.std.specs.Str.{bytes_eq}
+use Rattle.brd_text.specs.Bytes.{is_name}
 use Rattle.brd_text.specs.Numbers.{most_word, plain_decimal_of, value_of}
 use Rattle.brd_gdb.specs.Hexes.{pair_of, range_of, unhexed}
 use Rattle.brd_gdb.specs.Parts.{two_of}
@@ -15,6 +16,7 @@ use Rattle.brd_gdb.specs.declared.request.PointKind.{PointKind}
 use Rattle.brd_gdb.specs.declared.request.PointKind.TheVariants.{SoftwareBreak, HardwareBreak, WriteWatch, ReadWatch}
 use Rattle.brd_gdb.specs.declared.request.PointKind.TheVariants.{AccessWatch}
 use Rattle.brd_gdb.specs.declared.request.ThreadKind.{ThreadKind}
+use Rattle.brd_gdb.specs.declared.request.MarkName.{MarkName}
 use Rattle.brd_gdb.specs.declared.request.Monitor.{Monitor}
 use Rattle.brd_gdb.specs.declared.request.Monitor.TheVariants as monitor
 use Rattle.brd_gdb.specs.declared.request.Request.{Request}
@@ -198,7 +200,8 @@ monitor_word text =
     (if_is (codes "console") monitor.Console text
     (if_is (codes "summary") monitor.Summary text
     (if_is (codes "help") monitor.Help text
-    None)))))
+    (if_is (codes "marks") monitor.Marks text
+    None))))))
 
 abbrev pub monitor_change : List ℕ → Option Monitor
 monitor_change text =
@@ -216,12 +219,28 @@ monitor_number text =
     (if_begins (codes "back ") (λ digits. option_map monitor.Back (plain_decimal_of digits 9)) text
     None)))
 
+-- the name of a mark: a name of at most 31 bytes, with zeros behind it
+abbrev pub is_mark_name : List ℕ → Bool
+is_mark_name text = is_name text && nat_le (length text) 31
+
+abbrev pub mark_name_of : List ℕ → Option MarkName
+mark_name_of text =
+    if is_mark_name text then Some (record { bytes = text ++ replicate (31 - length text) 0 }) else None
+
+abbrev pub monitor_name : List ℕ → Option Monitor
+monitor_name text =
+    if_begins (codes "mark ") (λ name. option_map monitor.MarkByName (mark_name_of name)) text
+    (if_begins (codes "goto ") (λ name. option_map monitor.GotoName (mark_name_of name)) text
+    None)
+
 abbrev pub monitor_or : Option Monitor → Monitor
 monitor_or None = monitor.Unknown
 monitor_or (Some command) = command
 
 abbrev pub monitor_of : List ℕ → Monitor
-monitor_of text = monitor_or (or_else (monitor_word text) (or_else (monitor_change text) (monitor_number text)))
+monitor_of text =
+    monitor_or (or_else (monitor_word text) (or_else (monitor_change text) (or_else (monitor_number text)
+    (monitor_name text))))
 
 abbrev pub monitor_packet_of : List ℕ → Option Request
 monitor_packet_of text =

@@ -21,4 +21,4 @@ pub use digits::put_hex;
 pub use packet::{put_output, put_packet};
 pub use reading::request_of;
 pub use receiver::{Arrival, PACKET_SIZE, Receiver};
-pub use request::{Monitor, Move, PointKind, Request, ThreadId, ThreadKind};
+pub use request::{MarkName, Monitor, Move, PointKind, Request, ThreadId, ThreadKind};

@@ -3,11 +3,14 @@
 ghost use Rattle.std.specs.Prelude.{◌≡◌};
 ghost use Rattle.brd_gdb.specs.Reading as reading;
 
-use crate::request::{Monitor, ThreadKind};
-use brd_text::plain_decimal;
+use crate::request::{MarkName, Monitor, ThreadKind};
+use brd_text::{is_name, plain_decimal};
 
 /// The last mark's number (own choice).
 const LAST_MARK: u64 = 9;
+
+/// How many bytes the name of a mark has at most (own choice).
+const LONGEST: usize = 31;
 
 /// What a text asks for.
 pub fn monitored(text: &[u8]) -> Monitor
@@ -19,7 +22,10 @@ pub fn monitored(text: &[u8]) -> Monitor
     if let Some(command) = changing(text) {
         return command;
     }
-    match numbered(text) {
+    if let Some(command) = numbered(text) {
+        return command;
+    }
+    match named(text) {
         Some(command) => command,
         None => Monitor::Unknown,
     }
@@ -46,6 +52,9 @@ fn word(text: &[u8]) -> Option<Monitor>
     }
     if text == b"help".as_slice() {
         return Some(Monitor::Help);
+    }
+    if text == b"marks".as_slice() {
+        return Some(Monitor::Marks);
     }
     None
 }
@@ -90,4 +99,38 @@ fn numbered(text: &[u8]) -> Option<Monitor>
         return Some(Monitor::Back(number as u8));
     }
     None
+}
+
+/// The command of a text that is a word, one space and the name of a mark.
+fn named(text: &[u8]) -> Option<Monitor>
+    ensures { result ≡ reading.monitor_name text.now }
+{
+    if let Some(name) = text.strip_prefix(b"mark ") {
+        let name = mark_name(name)?;
+        return Some(Monitor::MarkByName(name));
+    }
+    if let Some(name) = text.strip_prefix(b"goto ") {
+        let name = mark_name(name)?;
+        return Some(Monitor::GotoName(name));
+    }
+    None
+}
+
+/// The name of a mark.
+fn mark_name(text: &[u8]) -> Option<MarkName>
+    ensures { result ≡ reading.mark_name_of text.now }
+{
+    if !is_mark_name(text) {
+        return None;
+    }
+    let mut bytes = [0u8; LONGEST];
+    bytes[..text.len()].copy_from_slice(text);
+    Some(MarkName { bytes })
+}
+
+/// Whether a text is the name of a mark.
+fn is_mark_name(text: &[u8]) -> bool
+    ensures { result ≡ reading.is_mark_name text.now }
+{
+    is_name(text) && text.len() <= LONGEST
 }

@@ -56,6 +56,13 @@ pub enum ThreadKind {
     Processors,
 }
 
+/// The name of a mark: a name as in sources, of at most 31 bytes (own choice).
+#[derive(Clone, Copy, PartialEq, Eq)]
+pub struct MarkName {
+    /// The bytes, and zeros behind them.
+    pub bytes: [u8; 31],
+}
+
 /// What the user asks for with GDB's command `monitor` (own choice).
 #[derive(Clone, Copy, PartialEq, Eq)]
 pub enum Monitor {
@@ -67,6 +74,12 @@ pub enum Monitor {
     Mark(u8),
     /// `back N`: to go to where a mark stands.
     Back(u8),
+    /// `mark NAME`: to let a mark with a name stand at the position.
+    MarkByName(MarkName),
+    /// `goto NAME`: to go to where a mark with a name stands.
+    GotoName(MarkName),
+    /// `marks`: where the marks stand.
+    Marks,
     /// `where`: the position, and whose step comes.
     Where,
     /// `tasks`: the tasks and their states.

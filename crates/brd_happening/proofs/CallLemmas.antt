@@ -21,7 +21,7 @@ use Rattle.brd_exec.specs.Step.{unless_stopped, stores, loads_linked, stores_if_
 use Rattle.brd_kernel.specs.declared.processor.Processor.{Processor}
 use Rattle.brd_kernel.specs.declared.processor.Executor.{Executor}
 use Rattle.brd_kernel.specs.declared.processor.Standing.{Standing}
-use Rattle.brd_kernel.specs.Kernel.{processor_at, executor_in, executor_on, context_of, standing_in, deliverable, line_at}
+use Rattle.brd_kernel.specs.Kernel.{processor_at, executor_in, executor_on, context_of, standing_in, deliverable, can_be_raised}
 use Rattle.brd_board.specs.Executing.{executed_by, executed_in}
 use Rattle.brd_board.specs.declared.event.Event.{Event}
 use Rattle.brd_board.specs.declared.event.Event.TheVariants.{Step, Tick, Raise}
@@ -239,7 +239,7 @@ looks-on : (b : BoardState) (event : Event) → Looks b event (happens_on b even
 looks-on b (Step cpu) = looks-step b cpu (processor_at b.kernel cpu)
 looks-on b Tick = λ told. refl
 looks-on b (Raise line) =
-    either (is_some (line_at b.kernel line).handler) b (Raise line) _ _ (λ told. absurd (false≢true told)) (λ told. absurd (false≢true told))
+    either (can_be_raised b.kernel line) b (Raise line) _ _ (λ told. absurd (false≢true told)) (λ told. absurd (false≢true told))
 
 pub event-looks : (b : BoardState) (event : Event) → Looks b event (happens b event)
 unfolding happens

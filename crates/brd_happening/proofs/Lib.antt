@@ -1,4 +1,6 @@
 pub mod ReleaseLemmas
+pub mod RungLemmas
+pub mod TickLemmas
 pub mod CallLemmas
 pub mod TellingLemmas
 pub mod ToldLemmas

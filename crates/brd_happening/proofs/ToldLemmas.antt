@@ -19,7 +19,7 @@ use Rattle.brd_kernel.specs.declared.processor.Processor.{Processor}
 use Rattle.brd_kernel.specs.declared.processor.Executor.{Executor}
 use Rattle.brd_kernel.specs.declared.processor.Executor.TheVariants as executor
 use Rattle.brd_kernel.specs.declared.processor.Standing.{Standing}
-use Rattle.brd_kernel.specs.Kernel.{KernelState, processor_at, executor_in, executor_on, context_of, context_on, with_context_of, standing_in, deliverable, line_at}
+use Rattle.brd_kernel.specs.Kernel.{KernelState, processor_at, executor_in, executor_on, context_of, context_on, with_context_of, standing_in, deliverable, line_at, can_be_raised}
 use Rattle.brd_board.specs.Executing.{executed_by, executed_in}
 use Rattle.brd_board.specs.declared.event.Event.{Event}
 use Rattle.brd_board.specs.declared.event.Event.TheVariants.{Step, Tick, Raise}
@@ -185,7 +185,7 @@ told-on : (b : BoardState) (event : Event) → HasFaults b → Told b event (hap
 told-on b (Step cpu) faults = told-step b cpu (processor_at b.kernel cpu) faults
 told-on b Tick faults = either (nat_lt b.kernel.time.count last_count) b Tick _ _ refl refl
 told-on b (Raise line) faults =
-    either (is_some (line_at b.kernel line).handler) b (Raise line) _ _ (raised-told line (line_at b.kernel line).pending) refl
+    either (can_be_raised b.kernel line) b (Raise line) _ _ (raised-told line (line_at b.kernel line).pending) refl
 
 pub event-told : (b : BoardState) (event : Event) → HasFaults b → is_told (happening_of b event).what ≡ true
 unfolding happens

@@ -21,7 +21,7 @@ use Rattle.brd_time.specs.Time.{last_count, due_of}
 use Rattle.brd_kernel.specs.declared.processor.Processor.{Processor}
 use Rattle.brd_kernel.specs.declared.processor.Executor.{Executor}
 use Rattle.brd_kernel.specs.declared.processor.Executor.TheVariants as executor
-use Rattle.brd_kernel.specs.Kernel.{KernelState, with_tasks, processor_at, running_in, running_on, executor_on, context_of, with_context_of, handles, deliverable, line_at}
+use Rattle.brd_kernel.specs.Kernel.{KernelState, with_tasks, processor_at, running_in, running_on, executor_on, context_of, with_context_of, handles, deliverable, can_be_raised}
 use Rattle.brd_kernel.specs.Waits.{shown_until, seen_at, ended_in, given_below, all_given_in, priorities_of, prioritized_below, prioritized}
 use Rattle.brd_kernel.specs.Waits.{faulted_task, faulted_in, ended_by_fault}
 use Rattle.brd_kernel.proofs.SameLemmas.{same-prioritized, same-context}
@@ -225,7 +225,7 @@ goes-on : (b : BoardState) (event : Event) → RunsOn b.kernel → Goes b (happe
 goes-on b (Step cpu) runs = goes-step b cpu (processor_at b.kernel cpu) runs
 goes-on b Tick runs =
     either (nat_lt b.kernel.time.count last_count) b _ _ (λ told. absurd (false≢true (sym told))) (λ told id is. is)
-goes-on b (Raise line) runs = either (is_some (line_at b.kernel line).handler) b _ _ (λ told id is. is) (λ told id is. is)
+goes-on b (Raise line) runs = either (can_be_raised b.kernel line) b _ _ (λ told id is. is) (λ told id is. is)
 
 event-goes : (b : BoardState) (event : Event) → RunsOn b.kernel → Goes b (happens b event)
 unfolding happens

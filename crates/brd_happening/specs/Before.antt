@@ -11,6 +11,7 @@ use Rattle.brd_happening.specs.declared.release.Waiter.{Waiter}
 use Rattle.brd_happening.specs.declared.before.Before.{Before}
 use Rattle.brd_happening.specs.Found.{found_on}
 use Rattle.brd_happening.specs.Release.{waiters_of}
+use Rattle.brd_happening.specs.Rung.{due_in}
 
 -- what the processor does whose step an event is
 abbrev pub who_of : BoardState → Event → Option Standing
@@ -58,5 +59,6 @@ before_of b event = record {
   pending = is_pending b event;
   standard = b.kernel.standard;
   waiters = waiters_in b (may_release b event (found_in b event));
+  due = due_in b event;
   off = b.kernel.off;
 }

@@ -13,6 +13,7 @@ use Rattle.brd_board.specs.Board.{BoardState, Happened, happens, registers_of, f
 use Rattle.brd_happening.specs.declared.found.Found.{Found}
 use Rattle.brd_happening.specs.declared.before.Before.{Before}
 use Rattle.brd_happening.specs.declared.release.Release.{Release}
+use Rattle.brd_happening.specs.declared.rung.Rung.{Rung}
 use Rattle.brd_happening.specs.declared.happening.{What.What, Happening.Happening}
 use Rattle.brd_happening.specs.declared.happening.What.TheVariants as what
 use Rattle.brd_happening.specs.declared.happening.Why.TheVariants as why
@@ -94,6 +95,11 @@ abbrev pub released_in : Before → Report → BoardState → List Release
 released_in before told after =
     if releases before.standard told then filter_map (release_in after) before.waiters else []
 
+-- the lines of time handlers that a tick raised, if it was counted
+abbrev pub rung_in : Before → Report → List Rung
+rung_in before report.Ticked = before.due
+rung_in before _ = []
+
 abbrev pub processor_of : Event → Option ℕ
 processor_of (Step cpu) = Some cpu
 processor_of Tick = None
@@ -109,6 +115,7 @@ happening_from before told after = record {
   place = place_of before.found;
   what = what_of before told after;
   released = released_in before told after;
+  rung = rung_in before told;
   goes_off = after.kernel.off && not before.off;
 }
 

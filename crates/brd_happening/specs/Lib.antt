@@ -2,6 +2,7 @@ pub mod Instruction
 pub mod Cause
 pub mod Found
 pub mod Release
+pub mod Rung
 pub mod Call
 pub mod Before
 pub mod Happening

@@ -14,6 +14,7 @@ ghost use Rattle.brd_happening.specs.Before.{
 
 use crate::found::Found;
 use crate::release::{Waiter, waiters_of};
+use crate::rung::{Rung, due_in};
 use brd_base::{List, NoMemory};
 use brd_board::{Board, Event, Standing};
 use brd_isa::Insn;
@@ -33,6 +34,8 @@ pub struct Before {
     pub standard: bool,
     /// The tasks that wait, if it may release some.
     pub waiters: List<Waiter>,
+    /// The lines that it raises, if it is a tick that is counted.
+    pub due: List<Rung>,
     /// Whether the board is off.
     pub off: bool,
 }
@@ -47,6 +50,7 @@ impl Drop for Before {
             pending: _,
             standard: _,
             waiters: _,
+            due: _,
             off: _,
         } = self;
     }
@@ -66,6 +70,7 @@ impl Before {
             pending: is_pending(board, event),
             standard: board.is_standard(),
             waiters,
+            due: due_in(alloc, board, event)?,
             off: board.is_off(),
         })
     }

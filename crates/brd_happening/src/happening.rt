@@ -15,6 +15,7 @@ ghost use Rattle.brd_happening.specs.Happening.{
   what_of,
   releases,
   released_in,
+  rung_in,
   happening_from,
   happening_of,
 };
@@ -25,6 +26,7 @@ use crate::cause::{Cause, cause_of};
 use crate::found::{Found, word_around};
 use crate::instruction::Instruction;
 use crate::release::{Release, released};
+use crate::rung::Rung;
 use brd_base::{List, NoMemory};
 use brd_board::{Board, Event, Fault, Report, Standing};
 use brd_isa::Insn;
@@ -93,6 +95,8 @@ pub struct Happening {
     pub what: What,
     /// The tasks that it releases, by ascending number.
     pub released: List<Release>,
+    /// The interrupt lines that it raises, of a tick: of the time handlers that are due, by ascending number.
+    pub rung: List<Rung>,
     /// Whether it turns the board off.
     pub goes_off: bool,
 }
@@ -106,6 +110,7 @@ impl Drop for Happening {
             place: _,
             what: _,
             released: _,
+            rung: _,
             goes_off: _,
         } = self;
     }
@@ -127,12 +132,14 @@ impl Before {
             IfOk result (λ told. told ≡ happening_of board self.now.event) }
     {
         let released = self.released(alloc, report, after)?;
+        let rung = self.rung(alloc, report)?;
         Ok(Happening {
             cpu: processor_of(self.event),
             who: self.who,
             place: place_of(&self.found),
             what: self.what(report, after),
             released,
+            rung,
             goes_off: after.is_off() && !self.off,
         })
     }
@@ -150,6 +157,16 @@ impl Before {
             return Ok(List::new(alloc));
         }
         released(alloc, self.waiters.as_slice(), after)
+    }
+
+    /// The lines of time handlers that the event raised.
+    fn rung(&self, alloc: Global, report: Report) -> Result<List<Rung>, NoMemory>
+        ensures { IfOk result (λ rung. rung ≡ rung_in self.now report) }
+    {
+        match report {
+            Report::Ticked => List::from_slice(alloc, self.due.as_slice()),
+            _ => Ok(List::new(alloc)),
+        }
     }
 
     /// What the event was.

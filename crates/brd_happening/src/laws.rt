@@ -1,12 +1,17 @@
 //! What is true of every happening.
 
-ghost use Rattle.std.specs.Prelude.{◌≡◌, ℕ, ◌≤◌, Option, length, true, false};
+ghost use Rattle.std.specs.Prelude.{◌≡◌, ℕ, ◌≤◌, ◌<◌, ◌+◌, ◌||◌, Option, length, true, false};
 ghost use Rattle.std.specs.List.{filter_map};
+ghost use Rattle.std.specs.Option.{option_map};
 ghost use Rattle.brd_isa.specs.declared.instruction.Insn.{Insn};
 ghost use Rattle.brd_mem.specs.Memory.{Memory};
 ghost use Rattle.brd_link.specs.LinkSet.{LinkSet, IsLinkSet};
 ghost use Rattle.brd_exec.specs.State.{State};
 ghost use Rattle.brd_exec.specs.Step.{meaning};
+ghost use Rattle.brd_time.specs.Time.{last_count};
+ghost use Rattle.brd_timers.specs.Timers.{timer_at, is_due_at, ticked as timer_ticked};
+ghost use Rattle.brd_kernel.specs.Kernel.{KernelState, timer_line, line_at};
+ghost use Rattle.brd_kernel.specs.Waits.{ticked};
 ghost use Rattle.brd_kernel.specs.Running.{IsRunning};
 ghost use Rattle.brd_board.specs.declared.event.Event.{Event as EventOf};
 ghost use Rattle.brd_board.specs.Board.{BoardState, happens, linked_word_of};
@@ -53,4 +58,23 @@ pub fn what_is_stored_is_told()
         1 ≤ cpu → cpu ≤ 8 → IsLinkSet board.links →
         stores_by insn (is_link_to (linked_word_of board cpu) (address_by insn s)) ≡ false →
         KeepsMemory board.memory (meaning cpu insn s board.memory board.links) }
+{}
+
+/// A tick that is counted makes the line of each time handler pending whose time has come then, and has each time
+/// handler go on; every other line stays as it was. Without the profile it changes no line, and after the last tick
+/// that is counted none changes anything.
+pub fn a_tick_rings_who_is_due()
+    ensures count { (k : KernelState) → k.time.count < last_count → (ticked k).time.count ≡ k.time.count + 1 }
+    ensures line { (k : KernelState) (place : ℕ) → k.standard ≡ true → k.time.count < last_count → place < 128 →
+        timer_line place < length k.lines →
+        line_at (ticked k) (timer_line place)
+        ≡ record (line_at k (timer_line place)) {
+          pending = (line_at k (timer_line place)).pending || is_due_at (k.time.count + 1) k.timers place;
+        } }
+    ensures timer { (k : KernelState) (place : ℕ) → k.standard ≡ true → k.time.count < last_count → place < 128 →
+        timer_at (ticked k).timers place ≡ option_map (timer_ticked (k.time.count + 1)) (timer_at k.timers place) }
+    ensures device { (k : KernelState) (line : ℕ) → line < 32 → line_at (ticked k) line ≡ line_at k line }
+    ensures plain { (k : KernelState) → k.standard ≡ false →
+        ((ticked k).lines ≡ k.lines) × ((ticked k).timers ≡ k.timers) }
+    ensures last { (k : KernelState) → last_count ≤ k.time.count → ticked k ≡ k }
 {}

@@ -12,6 +12,7 @@ mod happening;
 mod instruction;
 pub mod laws;
 mod release;
+mod rung;
 
 pub use before::Before;
 pub use call::{Answer, CallMade};
@@ -20,3 +21,4 @@ pub use found::Found;
 pub use happening::{Exception, Happening, What, Why};
 pub use instruction::{Access, AccessKind, Change, Instruction, Jump, Written};
 pub use release::{AskedCall, Release, Waiter};
+pub use rung::Rung;

@@ -65,7 +65,87 @@ fn fault_of<'a>(image: &Image, config: &'a Config, text: &[u8]) -> Option<Findin
             return Some(found.with_number(pool.id as u64).with_second(ram / 1_024));
         }
     }
+    time_fault_of(symbols, config, text)
+}
+
+/// A cyclic handler or an alarm handler as a configuration says it.
+#[derive(Clone, Copy)]
+struct TimeHandler<'a> {
+    /// What such a handler is called.
+    name: &'static [u8],
+    /// The word of its statement.
+    word: &'static [u8],
+    id: u16,
+    exinf: &'a Operand,
+    address: &'a Operand,
+}
+
+/// What keeps a board from being started that is a time handler's.
+fn time_fault_of<'a>(symbols: &[Symbol], config: &'a Config, text: &[u8]) -> Option<Finding<'a>> {
+    let ram = config.ram as u64;
+    for cyclic in config.cyclics.as_slice() {
+        let it = TimeHandler {
+            name: b"cyclic handler",
+            word: b"CRE_CYC",
+            id: cyclic.id,
+            exinf: &cyclic.exinf,
+            address: &cyclic.address,
+        };
+        if let Some(found) = it.fault(symbols, ram, text) {
+            return Some(found);
+        }
+    }
+    for alarm in config.alarms.as_slice() {
+        let it = TimeHandler {
+            name: b"alarm handler",
+            word: b"CRE_ALM",
+            id: alarm.id,
+            exinf: &alarm.exinf,
+            address: &alarm.address,
+        };
+        if let Some(found) = it.fault(symbols, ram, text) {
+            return Some(found);
+        }
+    }
     None
+}
+
+impl<'a> TimeHandler<'a> {
+    /// What keeps a board from being started that is this handler's.
+    fn fault(&self, symbols: &[Symbol], ram: u64, text: &[u8]) -> Option<Finding<'a>> {
+        let found = if let Some(found) = self.no_symbol(symbols) {
+            found.with_second(line_of(text, self.word, self.id as u64))
+        } else {
+            self.no_start(symbols, ram)?.with_second(ram / 1_024)
+        };
+        Some(found.with_other(self.name).with_number(self.id as u64))
+    }
+
+    /// Its first name that is no symbol.
+    fn no_symbol(&self, symbols: &[Symbol]) -> Option<Finding<'a>> {
+        let (template, operand) = if value_of(symbols, self.exinf).is_none() {
+            (
+                b"^ ? (line &) has the argument ~, which is no symbol of the object file (see nm)".as_slice(),
+                self.exinf,
+            )
+        } else if value_of(symbols, self.address).is_none() {
+            (
+                b"^ ? (line &) starts at ~, which is no symbol of the object file (see nm)".as_slice(),
+                self.address,
+            )
+        } else {
+            return None;
+        };
+        Some(Finding::at(&[], template, name_of(operand)))
+    }
+
+    /// That it starts where no instruction can lie.
+    fn no_start(&self, symbols: &[Symbol], ram: u64) -> Option<Finding<'a>> {
+        let start = value_of(symbols, self.address)?;
+        let template =
+            b"^ ? starts at @, which is no multiple of 4 in the RAM of & KiB from 0x80000000";
+        is_no_start(start, ram).then_some(Finding::at(&[], template, &[]).with_address(start))
+    }
 }
 
 /// What an operand stands for: a number, or the value of a symbol. `None` where there is no such symbol.

@@ -7,8 +7,8 @@ use crate::names::{advice, near_name};
 use crate::scan::{behind, first};
 use crate::values_of::value_fault;
 use brd_config::{
-    ConfigFault, KEYWORDS, Keyword, attribute_named, class_of, keyword_of, mailbox_attribute_named,
-    open, protocol_named,
+    ConfigFault, KEYWORDS, Keyword, attribute_named, class_of, cyclic_attribute_named, keyword_of,
+    mailbox_attribute_named, open, protocol_named,
 };
 use brd_text::{Token, is_digit, is_name, number};
 use std::alloc::Global;
@@ -111,7 +111,7 @@ impl<'a> Reading<'a> {
         if !is_of_kind(kind, word) {
             return Some(self.misfit(kind, word));
         }
-        self.attribute = matches!(kind, b'a' | b'm').then_some(kind);
+        self.attribute = matches!(kind, b'a' | b'm' | b't').then_some(kind);
         if self.again.is_none() {
             self.wanted = behind(self.wanted, 1);
         }
@@ -166,7 +166,7 @@ impl<'a> Reading<'a> {
         };
         let is_of_the_profile = matches!(
             keyword,
-            Keyword::Mutex | Keyword::Pool | Keyword::Mailbox
+            Keyword::Mutex | Keyword::Pool | Keyword::Mailbox | Keyword::Cyclic | Keyword::Alarm
         );
         if !self.standard && is_of_the_profile {
             return Some(no_statement(self.standard, word));
@@ -194,7 +194,7 @@ impl<'a> Reading<'a> {
             b'{' => b"a { is missing: the form is ^".as_slice(),
             b'}' => b"a } is missing, or an operand is too many: the form is ^".as_slice(),
             b',' => b"a comma or an operand is missing: the form is ^".as_slice(),
-            b'a' | b'm' | b'p' => b"an attribute is missing: the form is ^".as_slice(),
+            b'a' | b'm' | b't' | b'p' => b"an attribute is missing: the form is ^".as_slice(),
             _ => b"an operand is missing: the form is ^".as_slice(),
         };
         Finding::at(&[], template, self.word)
@@ -205,7 +205,7 @@ impl<'a> Reading<'a> {
     /// What is said of a run that isn't what is wanted.
     fn misfit(&self, kind: u8, word: &'a [u8]) -> Finding<'a> {
         let template = match kind {
-            b'a' | b'm' | b'p' => b"unknown attribute ~: there are ^".as_slice(),
+            b'a' | b'm' | b't' | b'p' => b"unknown attribute ~: there are ^".as_slice(),
             b'c' => b"~ is no class: write TCL_ and the processor's number, as TCL_2".as_slice(),
             b'z' => b"~ stands where NULL or a number is wanted: the form is ^".as_slice(),
             b'u' => b"~ stands where NULL is wanted: the form is ^".as_slice(),
@@ -216,7 +216,7 @@ impl<'a> Reading<'a> {
             b',' => b"a comma is missing before ~: the form is ^".as_slice(),
             _ => return self.missing(kind),
         };
-        let other = if matches!(kind, b'a' | b'm' | b'p') {
+        let other = if matches!(kind, b'a' | b'm' | b't' | b'p') {
             self.told.attributes
         } else {
             self.told.form
@@ -236,6 +236,7 @@ fn is_of_kind(kind: u8, word: &[u8]) -> bool {
         b'u' => is_null,
         b'a' => is_number || attribute_named(word).is_some(),
         b'm' => is_number || mailbox_attribute_named(word).is_some(),
+        b't' => is_number || cyclic_attribute_named(word).is_some(),
         b'p' => is_number || protocol_named(word).is_some(),
         b'c' => class_of(word).is_some(),
         _ => false,

@@ -159,20 +159,27 @@ fn lies_in(segments: &[Segment], address: u32) -> bool {
     false
 }
 
+/// Whose stack a strand's is, and its number: that of a task, of an interrupt line, or from line 32 on of a cyclic
+/// handler, whose line is 30 + 2C, or an alarm handler, whose line is 31 + 2A.
+fn owner_of(strand: u16) -> (&'static [u8], u64) {
+    if strand < 256 {
+        return (b"task", strand as u64);
+    }
+    if strand < 288 {
+        return (b"the handler of line", (strand - 256) as u64);
+    }
+    if strand % 2 == 0 {
+        return (b"cyclic handler", (strand as u64 - 286) / 2);
+    }
+    (b"alarm handler", (strand as u64 - 287) / 2)
+}
+
 /// That the stack of a strand, a task's ID or 256 and a handler's line, has overflowed at an event.
 pub fn overflow_warning(strand: u16, event: u64, place: u32) -> FaultHint {
-    let (template, number) = if strand < 256 {
-        (
-            b"stack overflow of task ? at event &, at @: trace --stacks says more".as_slice(),
-            strand as u64,
-        )
-    } else {
-        (
-            b"stack overflow of the handler of line ? at event &, at @: trace --stacks says more".as_slice(),
-            (strand - 256) as u64,
-        )
-    };
+    let template = b"stack overflow of ^ ? at event &, at @: trace --stacks says more";
+    let (owner, number) = owner_of(strand);
     let found = Finding::at(&[], template, &[])
+        .with_other(owner)
         .with_number(number)
         .with_second(event)
         .with_address(place as u64);

@@ -6,7 +6,7 @@ use brd_board::{Board, Event, TaskState};
 use brd_journal::Journal;
 
 /// What is odd about a board to which nothing has happened, and a journal for it: that it steps a processor that isn't
-/// there; or that no task is started, and no interrupt comes.
+/// there; or that no task is started, no interrupt comes, and no time handler is due.
 pub fn run_warning(board: &Board, journal: &Journal) -> FaultHint {
     if let Some(cpu) = absent(board, journal) {
         let template = b"it steps processor ?, and the board has &: these steps do nothing";
@@ -15,7 +15,7 @@ pub fn run_warning(board: &Board, journal: &Journal) -> FaultHint {
             .with_second(processors(board));
         return told(b"the journal", None, None, Some(found));
     }
-    if !journal.is_empty() && !has_raises(journal) && !has_started(board) {
+    if !journal.is_empty() && !has_raises(journal) && !has_started(board) && !has_due(board) {
         let template = b"no task is started: one that begins at once has the attribute TA_ACT";
         let found = Finding::at(&[], template, &[]);
         return told(b"the configuration", None, None, Some(found));
@@ -63,6 +63,16 @@ fn has_started(board: &Board) -> bool {
             if matches!(task.state, TaskState::Ready) {
                 return true;
             }
+        }
+    }
+    false
+}
+
+/// Whether a time handler is due at a tick.
+fn has_due(board: &Board) -> bool {
+    for place in 0..128u8 {
+        if board.timer_due(place).is_some() {
+            return true;
         }
     }
     false

@@ -6,7 +6,8 @@ use brd_config::Keyword;
 #[derive(Clone, Copy)]
 pub(crate) struct Told {
     /// Its marks and operands in their order. Of the operands `n` is a number, `v` a number or a name, `z` a number or
-    /// NULL, `u` NULL, `a` attributes, `m` those of a mailbox, `p` the protocol of a mutex, `c` a class.
+    /// NULL, `u` NULL, `a` attributes, `m` those of a mailbox, `t` those of a cyclic handler, `p` the protocol of a
+    /// mutex, `c` a class.
     pub marks: &'static [u8],
     /// Its form in words.
     pub form: &'static [u8],
@@ -79,6 +80,18 @@ pub(crate) fn told_of(keyword: Keyword) -> Told {
             attributes: b"TA_TFIFO, TA_TPRI, TA_MFIFO and TA_MPRI",
             again: b"mailbox ? is there already, on line &",
         },
+        Keyword::Cyclic => Told {
+            marks: b"(n,{t,v,v,n,n});",
+            form: b"CRE_CYC(id, {attributes, exinf, handler, cyclic time, cyclic phase});",
+            attributes: b"TA_HLNG, TA_ASM, TA_STA and TA_PHS",
+            again: b"cyclic handler ? is there already, on line &",
+        },
+        Keyword::Alarm => Told {
+            marks: b"(n,{a,v,v});",
+            form: b"CRE_ALM(id, {attributes, exinf, handler});",
+            attributes: b"TA_HLNG and TA_ASM",
+            again: b"alarm handler ? is there already, on line &",
+        },
         Keyword::Handler => Told {
             marks: b"(n,{a,v});",
             form: b"DEF_INH(line, {attributes, handler});",
@@ -95,13 +108,14 @@ pub(crate) const WORDS: &[u8] =
 /// The words that begin a statement with the profile.
 pub(crate) const WORDS_OF_THE_PROFILE: &[u8] =
     b"there are BOARD, CLASS, CRE_TSK, CRE_SEM, CRE_FLG, CRE_DTQ, \
-CRE_SPN, CRE_MTX, CRE_MPF, CRE_MBX and DEF_INH";
+CRE_SPN, CRE_MTX, CRE_MPF, CRE_MBX, CRE_CYC, CRE_ALM and DEF_INH";
 
 /// What is said of statements that uITRON and TOPPERS have and this kernel hasn't: a line for those of which the same
-/// is said. With the profile there are mutexes, fixed memory pools and mailboxes.
+/// is said. With the profile there are mutexes, fixed memory pools, mailboxes, cyclic handlers and alarm handlers.
 pub(crate) const OTHERS: &[u8] = b"\
 CRE_MTX: mutexes are there with PROFILE(STANDARD); before BOARD: else use CRE_SEM with a maximum of 1
-CRE_CYC CRE_ALM DEF_OVR: no cyclic or alarm handlers: a task can wait by dly_tsk
+CRE_CYC CRE_ALM: such handlers are there with PROFILE(STANDARD); before BOARD: else a task can wait by dly_tsk
+DEF_OVR: no overrun handlers: a cyclic handler can see which task runs, by iget_tid
 CRE_MBX: mailboxes are there with PROFILE(STANDARD); before BOARD: else use CRE_DTQ
 CRE_MPF: fixed memory pools are there with PROFILE(STANDARD); before BOARD: else reserve memory in the program
 CRE_MBF CRE_POR CRE_PDQ: of queues there are data queues: use CRE_DTQ

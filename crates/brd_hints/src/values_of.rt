@@ -4,8 +4,8 @@ use crate::finding::Finding;
 use crate::keywords::told_of;
 use brd_base::is_ram_size;
 use brd_config::{
-    ConfigFault, Keyword, attribute_named, class_of, keyword_of, mailbox_attribute_named, open,
-    protocol_named, read_board, read_statement,
+    ConfigFault, Keyword, attribute_named, class_of, cyclic_attribute_named, keyword_of,
+    mailbox_attribute_named, open, protocol_named, read_board, read_statement,
 };
 use brd_text::{Scanner, Token, number};
 use std::alloc::Global;
@@ -28,7 +28,8 @@ struct Valued<'a> {
 fn value_of(word: &[u8]) -> u64 {
     let named = attribute_named(word)
         .or(protocol_named(word))
-        .or(mailbox_attribute_named(word));
+        .or(mailbox_attribute_named(word))
+        .or(cyclic_attribute_named(word));
     match named.or(class_of(word)).or(number(word)) {
         Some(value) => value as u64,
         None => 0,
@@ -139,6 +140,9 @@ fn limit_of(fault: ConfigFault, keyword: Keyword, read: &Valued) -> Option<(usiz
         (ConfigFault::BadId { .. }, Keyword::Handler) => {
             (0, b"the interrupt line of ~ is 0 to 31, found ?".as_slice())
         }
+        (ConfigFault::BadId { .. }, Keyword::Cyclic | Keyword::Alarm) => {
+            (0, b"the ID of ~ is 1 to 64, found ?".as_slice())
+        }
         (ConfigFault::BadId { .. }, _) => (0, b"the ID of ~ is 1 to 255, found ?".as_slice()),
         (ConfigFault::BadAttribute { .. }, _) => {
             (
@@ -197,6 +201,14 @@ fn count_limit(keyword: Keyword, read: &Valued) -> Option<(usize, &'static [u8])
             2,
             b"a fixed memory pool has 1 to 256 blocks, found ?".as_slice(),
         ),
+        Keyword::Cyclic if is_period(read.value(4)) => (
+            5,
+            b"the cyclic phase of a cyclic handler is 0 to 0x7fffffff ticks, found ?".as_slice(),
+        ),
+        Keyword::Cyclic => (
+            4,
+            b"the cyclic time of a cyclic handler is 1 to 0x7fffffff ticks, found ?".as_slice(),
+        ),
         _ => return None,
     };
     Some((slot, template))
@@ -219,6 +231,11 @@ fn is_maximum(maximum: u64) -> bool {
 /// Whether a fixed memory pool can have so many blocks.
 fn is_number_of_blocks(count: u64) -> bool {
     count != 0 && count <= 256
+}
+
+/// Whether so many ticks can pass from one time of a cyclic handler to the next.
+fn is_period(ticks: u64) -> bool {
+    ticks != 0 && ticks <= 0x7fff_ffff
 }
 
 /// What is defined for the second time, where n statements from BOARD on stand before it.

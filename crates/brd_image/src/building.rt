@@ -1,6 +1,6 @@
 //! A board of a source, or of an object file, and a configuration.
 
-ghost use Rattle.std.specs.Prelude.{◌≡◌, ℕ, List, false, IfOk, IfErr, MatchResult};
+ghost use Rattle.std.specs.Prelude.{◌≡◌, false, IfOk, IfErr, MatchResult};
 ghost use Rattle.brd_mem.specs.declared.image.Image.{Image as ImageOf};
 ghost use Rattle.brd_elf.specs.File.{Fits, file};
 ghost use Rattle.brd_image.specs.Faults.{Gives, holds_no_memory, is_of_elf};

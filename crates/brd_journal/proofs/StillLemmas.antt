@@ -7,7 +7,7 @@ use Rattle.brd_exec.specs.declared.outcome.Outcome.TheVariants.{Done, Syscall, E
 use Rattle.brd_time.specs.Time.{last_count}
 use Rattle.brd_kernel.specs.declared.processor.InterruptLine.{InterruptLine}
 use Rattle.brd_kernel.specs.declared.processor.Processor.{Processor}
-use Rattle.brd_kernel.specs.Kernel.{KernelState, processor_at, deliverable, line_at, quiet, with_pending}
+use Rattle.brd_kernel.specs.Kernel.{KernelState, processor_at, deliverable, line_at, can_be_raised, quiet, with_pending}
 use Rattle.brd_board.specs.Executing.{Executed, executed}
 use Rattle.brd_board.specs.declared.event.Event.{Event}
 use Rattle.brd_board.specs.declared.event.Event.TheVariants.{Step, Tick, Raise}
@@ -48,7 +48,7 @@ step-leaves b cpu (Some p) none = either b p.stopped _ _ (λ none. refl) (accept
 on-leaves : (b : BoardState) (event : Event) → LeavesIt b (happens_on b event)
 on-leaves b (Step cpu) none = step-leaves b cpu (processor_at b.kernel cpu) none
 on-leaves b Tick none = either b (nat_lt b.kernel.time.count last_count) _ _ (λ none. absurd (false≢true none)) (λ none. refl) none
-on-leaves b (Raise line) none = either b (is_some (line_at b.kernel line).handler) _ _ (λ none. absurd (false≢true none)) (λ none. refl) none
+on-leaves b (Raise line) none = either b (can_be_raised b.kernel line) _ _ (λ none. absurd (false≢true none)) (λ none. refl) none
 
 pub happens-leaves : (b : BoardState) (event : Event) → did_nothing (happens b event).report ≡ true → (happens b event).board ≡ b
 unfolding happens
@@ -72,7 +72,7 @@ with_pending-again k line = ap (λ lines. record k { lines = lines }) (pending-a
 abbrev raised : BoardState → ℕ → BoardState
 raised b line = record b { kernel = with_pending b.kernel line }
 
-raised-by : (b : BoardState) (line : ℕ) (handled : Bool) → is_some (line_at b.kernel line).handler ≡ handled →
+raised-by : (b : BoardState) (line : ℕ) (handled : Bool) → can_be_raised b.kernel line ≡ handled →
     line_raised b line ≡ (if handled then reported (raised b line) report.Raised else reported b report.NoSuch)
 raised-by b line handled is = ap (λ test. if test then reported (raised b line) report.Raised else reported b report.NoSuch) is
 
@@ -81,12 +81,12 @@ raised-again : (b : BoardState) (line : ℕ) (handled : Bool) →
 raised-again b line true = ap (λ k. record b { kernel = k }) (with_pending-again b.kernel line)
 raised-again b line false = refl
 
-line-again : (b : BoardState) (line : ℕ) (handled : Bool) → is_some (line_at b.kernel line).handler ≡ handled →
+line-again : (b : BoardState) (line : ℕ) (handled : Bool) → can_be_raised b.kernel line ≡ handled →
     (line_raised (line_raised b line).board line).board ≡ (line_raised b line).board
 line-again b line false none = ap (λ (done : Happened). (line_raised done.board line).board) (raised-by b line false none)
 line-again b line true some =
     ap (λ (done : Happened). (line_raised done.board line).board) (raised-by b line true some)
-    ∙ raised-again b line (is_some (line_at (raised b line).kernel line).handler)
+    ∙ raised-again b line (can_be_raised (raised b line).kernel line)
     ∙ sym (ap (λ (done : Happened). done.board) (raised-by b line true some))
 
 on-raises : (b : BoardState) (line : ℕ) → b.kernel.off ≡ false → happens b (Raise line) ≡ line_raised b line
@@ -102,10 +102,10 @@ raise-rests : (b : BoardState) (line : ℕ) (off : Bool) → b.kernel.off ≡ of
 raise-rests b line true off =
     ap (λ (x : BoardState). (happens x (Raise line)).board) (ap (λ (done : Happened). done.board) (off-stays b (Raise line) off))
 raise-rests b line false on =
-    let then_on : (line_raised b line).board.kernel.off ≡ false = raised-on b line (is_some (line_at b.kernel line).handler) ∙ on in
+    let then_on : (line_raised b line).board.kernel.off ≡ false = raised-on b line (can_be_raised b.kernel line) ∙ on in
     subst (λ (done : Happened). Rests done.board (Raise line)) (sym (on-raises b line on))
     (ap (λ (done : Happened). done.board) (on-raises (line_raised b line).board line then_on)
-    ∙ line-again b line (is_some (line_at b.kernel line).handler) refl)
+    ∙ line-again b line (can_be_raised b.kernel line) refl)
 
 pub rests : (b : BoardState) (event : Event) → does_no_more event (happens b event).report ≡ true → Rests (happens b event).board event
 rests b (Step cpu) none = ap (λ (x : BoardState). (happens x (Step cpu)).board) (happens-leaves b (Step cpu) none)
@@ -125,7 +125,7 @@ after-still b event count still = after-copies b event count still
 -- what a raised line reports
 pub raise-told : (P : Report → Type 0) (b : BoardState) (line : ℕ) → P report.Off → P report.Raised → P report.NoSuch → P (happens b (Raise line)).report
 unfolding happens
-raise-told P b line off raised none = told-by b.kernel.off (is_some (line_at b.kernel line).handler)
+raise-told P b line off raised none = told-by b.kernel.off (can_be_raised b.kernel line)
   where
     told-by : (off handled : Bool) →
         P (if off then reported b report.Off else (if handled then reported (record b { kernel = with_pending b.kernel line }) report.Raised else reported b report.NoSuch)).report

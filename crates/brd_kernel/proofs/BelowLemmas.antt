@@ -1,11 +1,11 @@
 -- What is done for the IDs below a number is done for one more.
-use Rattle.std.proofs.Common.{◌≡◌, ℕ, suc, ◌+◌, List, refl, ap, ◌∙◌, arith}
-use Rattle.std.specs.Prelude.{Bool, false, ◌&&◌, ◌||◌, Option, None, Some, replicate, slice_set}
+use Rattle.std.proofs.Common.{◌≡◌, ℕ, suc, ◌+◌, List, refl, ap, arith}
+use Rattle.std.specs.Prelude.{false, ◌&&◌, ◌||◌, None, replicate, slice_set}
 use Rattle.brd_mutexes.specs.Lifting.{priority_at}
 use Rattle.brd_tasks.specs.Tasks.{TaskTable, task_at}
 use Rattle.brd_objects.specs.Table.{object_at}
 use Rattle.brd_kernel.specs.Kernel.{KernelState}
-use Rattle.brd_kernel.specs.Waits.{has_mutex_in, given_by_in, given_below, base_in, bases_below, ceiling_in, ceilings_below, inheritor_for, reason_of, inheritors_below, prioritized_by, prioritized_below}
+use Rattle.brd_kernel.specs.Waits.{has_mutex_in, given_by_in, given_below, base_in, bases_below, ceiling_in, ceilings_below, inheritor_for, reason_of, inheritors_below, prioritized_by, prioritized_below, rung_at, rung_below}
 use Rattle.brd_kernel.specs.Services.{is_over_mutex, is_over_below}
 
 next : (n : ℕ) → suc n ≡ n + 1
@@ -63,3 +63,11 @@ pub prioritized_more : (k : KernelState) (priorities : List ℕ) (id : ℕ) →
     prioritized_below k priorities (id + 1)
 unfolding prioritized_below
 prioritized_more k priorities id = ap (prioritized_below k priorities) (next id)
+
+pub rung_none : (k : KernelState) → k ≡ rung_below k 0
+unfolding rung_below
+rung_none k = refl
+
+pub rung_more : (k : KernelState) (place : ℕ) → rung_at (rung_below k place) place ≡ rung_below k (place + 1)
+unfolding rung_below
+rung_more k place = ap (rung_below k) (next place)

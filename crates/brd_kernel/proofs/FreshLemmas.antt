@@ -1,5 +1,5 @@
 -- A kernel in which nobody waits and nobody has a mutex: each task has its base priority. So it is at boot.
-use Rattle.std.proofs.Common.{◌≡◌, ◌<◌, ◌≤◌, ℕ, zero, suc, List, [], ◌∷◌, length, refl, sym, ap, subst, ◌∙◌, arith}
+use Rattle.std.proofs.Common.{◌≡◌, ◌<◌, ◌≤◌, ℕ, zero, suc, List, length, refl, sym, ap, subst, ◌∙◌, arith}
 use Rattle.std.specs.Prelude.{Bool, true, false, ◌==◌, nat_lt, if◌then◌else◌, Option, None, Some, IfSome, find, replicate, slice_set, slice_index_or}
 use Rattle.std.specs.Option.{option_map}
 use Rattle.std.proofs.lemmas.Bool.Decides.{nat_tests}
@@ -10,7 +10,7 @@ use Rattle.brd_tasks.specs.declared.task.Request.{Request}
 use Rattle.brd_tasks.specs.Status.{waiting_of, is_dormant}
 use Rattle.brd_tasks.specs.Tasks.{TaskTable, task_at, unstarted, started, processor_of, starts, patched, where_there, activated}
 use Rattle.brd_tasks.proofs.MadeLemmas.{same-at, row-at}
-use Rattle.brd_mutexes.specs.Lifting.{priority_at, holder_of}
+use Rattle.brd_mutexes.specs.Lifting.{priority_at}
 use Rattle.brd_mutexes.specs.Passes.{lifted}
 use Rattle.brd_mutexes.proofs.PassLemmas.{begins}
 use Rattle.brd_mutexes.proofs.LiftedLemmas.{lifted-is}
@@ -27,8 +27,8 @@ use Rattle.brd_objects.specs.Table.{object_at}
 use Rattle.brd_kernel.specs.declared.processor.LineSetup.{LineSetup}
 use Rattle.brd_kernel.specs.Kernel.{KernelState, with_tasks}
 use Rattle.brd_kernel.specs.Making.{made_kernel}
-use Rattle.brd_kernel.specs.Waits.{reason_in, reason_of, base_in, bases_below, ceiling_of, ceiling_in, ceilings_below, inheritor_for, inheritors_below, priorities_of}
-use Rattle.brd_kernel.specs.Prioritized.{HaveTheirPriorities, IsPrioritized}
+use Rattle.brd_kernel.specs.Waits.{reason_in, base_in, bases_below, ceiling_of, ceiling_in, ceilings_below, inheritor_for, inheritors_below, priorities_of}
+use Rattle.brd_kernel.specs.Prioritized.{IsPrioritized}
 use Rattle.brd_kernel.proofs.WaitLemmas.{same-set}
 use Rattle.brd_kernel.proofs.who_waits.ListLemmas.{either}
 use Rattle.brd_kernel.proofs.who_waits.FirstLemmas.{each-first}

@@ -7,6 +7,7 @@ pub mod MakingLemmas
 pub mod CommonLemmas
 pub mod WaitLemmas
 pub mod who_waits
+pub mod RingLemmas
 pub mod ServedLemmas
 pub mod PricedLemmas
 pub mod SettledLemmas

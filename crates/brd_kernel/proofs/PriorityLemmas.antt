@@ -1,10 +1,9 @@
 -- After priorities were given each task has the one that it is to have.
-use Rattle.std.proofs.Common.{◌≡◌, ◌<◌, ◌≤◌, ℕ, zero, suc, ◌+◌, List, [], ◌∷◌, length, map, refl, sym, ap, subst, ◌∙◌, arith}
+use Rattle.std.proofs.Common.{◌≡◌, ◌<◌, ◌≤◌, ℕ, zero, suc, List, refl, sym, ap, subst, ◌∙◌, arith}
 use Rattle.std.specs.Prelude.{Bool, true, false, ◌==◌, nat_lt, if◌then◌else◌, Option, None, Some, slice_set, slice_index_or, Result, Ok, Err}
 use Rattle.std.specs.Option.{option_map}
 use Rattle.std.proofs.lemmas.Bool.{false≢true, true≢false}
 use Rattle.std.proofs.lemmas.Bool.Decides.{nat_tests}
-use Rattle.brd_config.specs.declared.objects.Protocol.{Protocol}
 use Rattle.brd_tasks.specs.declared.status.WaitReason.{WaitReason}
 use Rattle.brd_tasks.specs.declared.status.WaitReason.TheVariants as reason
 use Rattle.brd_tasks.specs.declared.status.WaitKind.{WaitKind}
@@ -16,9 +15,9 @@ use Rattle.brd_mutexes.specs.Lifting.{priority_at, AreLifted}
 use Rattle.brd_mutexes.specs.Passes.{lifted}
 use Rattle.brd_objects.specs.declared.mutex.Mutex.{Mutex}
 use Rattle.brd_objects.specs.Mutexes.{mutex_reordered}
-use Rattle.brd_objects.specs.Table.{Table, object_at, objects_changed}
+use Rattle.brd_objects.specs.Table.{object_at}
 use Rattle.brd_kernel.specs.Kernel.{KernelState, with_tasks, processor_at, spin_of}
-use Rattle.brd_kernel.specs.Waits.{changed_of, changed_for, moving, reason_in, reason_of, reordered_in, base_in, bases_below, ceiling_of, ceiling_in, ceilings_below, inheritor_in, inheritor_of, inheritor_for, inheritors_below, priorities_of, lifted_in, prioritized_by, prioritized_below, prioritized, all_timed_out, ticked_on, ticked, faulted_in, ended_by_fault}
+use Rattle.brd_kernel.specs.Waits.{changed_of, moving, reason_in, reason_of, reordered_in, base_in, bases_below, ceiling_of, ceiling_in, ceilings_below, inheritor_in, inheritor_for, inheritors_below, priorities_of, lifted_in, prioritized_by, prioritized_below, prioritized, all_timed_out, ticked_on, ticked, faulted_in, ended_by_fault}
 use Rattle.brd_time.specs.Time.{last_count, advanced, due_from}
 use Rattle.brd_mutexes.proofs.LiftedLemmas.{lifted-are}
 use Rattle.brd_kernel.specs.declared.processor.Spin.{Spin}
@@ -36,6 +35,7 @@ use Rattle.brd_kernel.proofs.WaitLemmas.{reordered-only}
 use Rattle.brd_kernel.proofs.SameLemmas.{same-prioritized}
 use Rattle.brd_kernel.proofs.AgainLemmas.{serve-again}
 use Rattle.brd_kernel.proofs.who_waits.ListLemmas.{either, same-number, written-at}
+use Rattle.brd_kernel.proofs.RingLemmas.{Outlasts, rung-keeps}
 use Rattle.brd_kernel.proofs.who_waits.WaitersLemmas.{mapped-at}
 
 -- What priorities hang on: of a task its base priority and what it waits for, of a mutex who has it and what it does.
@@ -298,15 +298,6 @@ pub serve-has : (k : KernelState) (cpu : ℕ) (c : Call) → IsPrioritized k →
 serve-has k cpu (call.LocSpn id) was = locked-has (asks_again (serve_of k cpu (call.LocSpn id)).reply) k cpu id refl was
 serve-has k cpu c was = says-has k (serve_by k cpu (caller_on k cpu) c) (serve-again k cpu c) was
 
-pub ticked-has : (k : KernelState) → IsPrioritized (ticked_on k (advanced k.time))
-ticked-has k = prioritized-has (all_timed_out (record k { time = advanced k.time }) (due_from (advanced k.time) 0))
-
-pub tick-has : (k : KernelState) → IsPrioritized k → IsPrioritized (ticked k)
-tick-has k was = either IsPrioritized (nat_lt k.time.count last_count) (ticked_on k (advanced k.time)) k (ticked-has k) was
-
-pub fault-has : (k : KernelState) (cpu : ℕ) → IsPrioritized (ended_by_fault k cpu)
-fault-has k cpu = prioritized-has (faulted_in k cpu (processor_at k cpu))
-
 -- What changes no task and no mutex keeps it.
 pub parts-have : (k new : KernelState) → new.standard ≡ k.standard → new.tasks.rows ≡ k.tasks.rows → new.mutexes ≡ k.mutexes → IsPrioritized k →
     IsPrioritized new
@@ -318,6 +309,20 @@ parts-have k new standard rows mutexes was has = λ id task small there.
       ceiling = λ at priorities. ap (λ table. ceiling_in (object_at table at) priorities) mutexes;
       inheritor = λ at. ap (λ table. inheritor_in (object_at table at)) mutexes;
     })))
+
+rings-have : Outlasts IsPrioritized
+rings-have k timers lines was = parts-have k (record k { timers = timers; lines = lines }) refl refl refl was
+
+pub ticked-has : (k : KernelState) → IsPrioritized (ticked_on k (advanced k.time))
+ticked-has k =
+    let ended : KernelState = all_timed_out (record k { time = advanced k.time }) (due_from (advanced k.time) 0) in
+    rung-keeps IsPrioritized (prioritized ended) rings-have (prioritized-has ended)
+
+pub tick-has : (k : KernelState) → IsPrioritized k → IsPrioritized (ticked k)
+tick-has k was = either IsPrioritized (nat_lt k.time.count last_count) (ticked_on k (advanced k.time)) k (ticked-has k) was
+
+pub fault-has : (k : KernelState) (cpu : ℕ) → IsPrioritized (ended_by_fault k cpu)
+fault-has k cpu = prioritized-has (faulted_in k cpu (processor_at k cpu))
 
 -- The rule.
 pub rule-is : (k : KernelState) → AreLifted (ceilings_below k 256) (inheritors_below k 256) (priorities_of k)

@@ -9,7 +9,7 @@ use Rattle.brd_kernel.specs.Kernel.{KernelState, with_tasks, with_processor, pro
 use Rattle.brd_kernel.specs.Waits.{ticked_on, ticked, faulted_task, faulted_in, ended_by_fault, quits_in}
 use Rattle.brd_kernel.specs.Services.{unmarked_on, serve_of, caller_on}
 use Rattle.brd_kernel.proofs.WalkLemmas.{Anything, Law, serve-always}
-use Rattle.brd_kernel.proofs.SameLemmas.{Same, same-law, same-quits, same-prioritized}
+use Rattle.brd_kernel.proofs.SameLemmas.{same-law, same-quits, same-prioritized}
 use Rattle.brd_kernel.proofs.SpinLemmas.{same-ticked}
 
 -- it has the profile where another one has

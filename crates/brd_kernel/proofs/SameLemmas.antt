@@ -209,4 +209,5 @@ same-law Q k cpu caller law = record {
   writes = λ word. law.same _ (record { processors = refl; spin_locks = refl; standard = refl });
   ends_all = law.same _ (record { processors = refl; spin_locks = refl; standard = refl });
   sets_clock = λ clock. law.same _ (record { processors = refl; spin_locks = refl; standard = refl });
+  sets_timers = λ timers. law.same _ (record { processors = refl; spin_locks = refl; standard = refl });
 }

@@ -17,6 +17,7 @@ use Rattle.brd_kernel.specs.Kernel.{KernelState, with_tasks, with_processor, pro
 use Rattle.brd_kernel.specs.Making.{idle_one, idle_ones}
 use Rattle.brd_kernel.specs.Dispatch.{dispatched_one, dispatched}
 use Rattle.brd_kernel.specs.Holding.{IsHolder, HeldAs, AreLocks}
+use Rattle.brd_kernel.proofs.RingLemmas.{Outlasts, rung-keeps}
 use Rattle.brd_kernel.specs.Waits.{ticked_on, ticked, faulted_task, faulted_in, ended_by_fault, quits_in, prioritized, all_timed_out}
 use Rattle.brd_kernel.specs.Services.{unmarked_on, handler_ended, serve_of, caller_on}
 use Rattle.brd_kernel.proofs.who_waits.ListLemmas.{same-number, written-at}
@@ -417,12 +418,16 @@ accept-wrote k cpu line is was =
 
 -- Ticks, which write no processor, and lines that are raised.
 
+same-rings : (k : KernelState) → Outlasts (λ new. Same new k)
+same-rings k new timers lines same = record { processors = same.processors; spin_locks = same.spin_locks; standard = same.standard }
+
 pub same-ticked : (k : KernelState) → Same (ticked_on k (advanced k.time)) k
 same-ticked k =
-    let only : Same (ticked_on k (advanced k.time)) (record k { time = advanced k.time }) =
-    same-then (same-prioritized (all_timed_out (record k { time = advanced k.time }) (due_from (advanced k.time) 0)))
-    (same-timed (record k { time = advanced k.time }) (due_from (advanced k.time) 0)) in
-    record { processors = only.processors; spin_locks = only.spin_locks; standard = only.standard }
+    let ended : KernelState = all_timed_out (record k { time = advanced k.time }) (due_from (advanced k.time) 0) in
+    let only : Same (prioritized ended) (record k { time = advanced k.time }) =
+    same-then (same-prioritized ended) (same-timed (record k { time = advanced k.time }) (due_from (advanced k.time) 0)) in
+    rung-keeps (λ new. Same new k) (prioritized ended) (same-rings k)
+    (record { processors = only.processors; spin_locks = only.spin_locks; standard = only.standard })
 
 pub same-pending : (k : KernelState) (line : ℕ) → Same (with_pending k line) k
 same-pending k line = record { processors = refl; spin_locks = refl; standard = refl }

@@ -2,7 +2,7 @@
 -- that a call can have (`Law`); the walk says of each call which effect it has. A call that has an effect which others
 -- have already is one case here, and nothing in any law.
 use Rattle.std.proofs.Common.{◌≡◌, ◌≢◌, ℕ, ◌%◌, ◌^◌, [], ◌∷◌, ◌++◌, refl, ap, subst, ◌∙◌, arith}
-use Rattle.std.specs.Prelude.{Bool, true, false, not, ◌==◌, ◌&&◌, ◌||◌, nat_lt, Option, None, Some, Err, is_some, Result, Ok}
+use Rattle.std.specs.Prelude.{Bool, true, false, not, ◌==◌, ◌&&◌, ◌||◌, nat_lt, List, Option, None, Some, Err, is_some, Result, Ok}
 use Rattle.std.proofs.lemmas.Bool.{or_parts, true≢false}
 use Rattle.std.proofs.lemmas.Bool.Decides.{nat_tests}
 use Rattle.brd_tasks.specs.declared.status.WaitReason.{WaitReason}
@@ -34,8 +34,10 @@ use Rattle.brd_kernel.specs.declared.call.Ercd.TheVariants.{Rlwai, Tmout}
 use Rattle.brd_kernel.specs.declared.call.Reply.{Reply}
 use Rattle.brd_kernel.specs.declared.call.Reply.TheVariants.{Answer, Silent, Again}
 use Rattle.brd_kernel.specs.Answer.{e_ok, code_of}
-use Rattle.brd_kernel.specs.Kernel.{KernelState, with_tasks, with_processor, processor_at, spin_of, holding, letting_go}
-use Rattle.brd_kernel.specs.Waits.{is_bad_timeout, due_by, due_after, with_wait, released_in, broken_off, with_released, quits_in, given_in, prioritized}
+use Rattle.brd_timers.specs.declared.timer.Timer.{Timer}
+use Rattle.brd_timers.specs.Timers.{changed_at, started, asked_for, stopped}
+use Rattle.brd_kernel.specs.Kernel.{KernelState, with_tasks, with_processor, processor_at, spin_of, holding, letting_go, cyclic_place, alarm_place}
+use Rattle.brd_kernel.specs.Waits.{base_in, is_bad_timeout, due_by, due_after, with_wait, released_in, broken_off, with_released, quits_in, given_in, prioritized}
 use Rattle.brd_kernel.specs.Row.{served, asks_again, Served}
 use Rattle.brd_kernel.specs.Services as table
 use Rattle.brd_kernel.specs.Services.{named, is_asleep, is_bad_want, is_held_elsewhere, is_no_processor, or_waits, callers_priority, with_satisfied_released, handed_over, flag_got, queue_sent, queue_received, block_got, message_got, message_of, released_with_second, unmarked_on, handler_ended, is_taken, lock_taken_by, lock_taken, lock_given_by, is_no_id, is_there_taken, comes_again, serve_by, serve_of, caller_on}
@@ -200,6 +202,8 @@ pub record Law (Known : Fact → Type 0) (Q : KernelState → Type 0) (k : Kerne
   pub ends_all : Q (record k { off = true })
   -- of the system time
   pub sets_clock : (clock : ℕ) → Q (record k { clock = clock })
+  -- of the times of time handlers
+  pub sets_timers : (timers : List (Option Timer)) → Q (record k { timers = timers })
 
 -- What a call may do to its caller: it goes on; it takes a spin lock; it is no longer CPU-locked; it may wait for so
 -- long, or for 0 only polls; it waits; it names the task that is to stop, which may be itself; or it ends.
@@ -385,7 +389,7 @@ walk Q k cpu caller law (call.MigTsk t to) may told =
 walk Q k cpu caller law call.GetPid may told = leaves-row Q (table.get_pid k cpu) (λ x passes. law.stays)
 walk Q k cpu caller law (call.RotRdq priority) may told =
     leaves-row Q (table.rot_rdq k cpu caller priority)
-    (λ p passes. law.rotates cpu (table.priority_or_callers priority (callers_priority k caller)) p passes.there)
+    (λ p passes. law.rotates cpu (table.priority_or_callers priority (base_in (task_at k.tasks caller))) p passes.there)
 walk Q k cpu caller law (call.IrotRdq priority) may told = leaves-row Q (table.irot_rdq k cpu priority) (λ p passes. law.rotates cpu priority p passes.there)
 walk Q k cpu caller law call.GetTid may told = leaves-row Q (table.get_tid k caller) (λ x passes. law.stays)
 walk Q k cpu caller law call.DisDsp may told =
@@ -447,7 +451,7 @@ walk Q k cpu caller law (call.Sns what) may told = leaves-row Q (table.sns k cpu
 walk Q k cpu caller law (call.MgetTid on) may told = leaves-row Q (table.mget_tid k on) (λ p passes. law.stays)
 walk Q k cpu caller law (call.MrotRdq priority on) may told =
     leaves-row Q (table.mrot_rdq k caller priority on)
-    (λ p passes. law.rotates on (table.priority_or_callers priority (callers_priority k caller)) p passes.there)
+    (λ p passes. law.rotates on (table.priority_or_callers priority (base_in (task_at k.tasks caller))) p passes.there)
 walk Q k cpu caller law (call.RefTsk t word) may told = leaves-row Q (table.ref_tsk k (named caller t) word) (λ task passes. law.stays)
 walk Q k cpu caller law (call.RefSem s word) may told = leaves-row Q (table.ref_sem k s word) (λ (s : Semaphore) passes. law.stays)
 walk Q k cpu caller law (call.RefFlg f word) may told = leaves-row Q (table.ref_flg k f word) (λ (f : Flag) passes. law.stays)
@@ -472,6 +476,16 @@ walk Q k cpu caller law (call.TrcvMbx id timeout) may told =
     (λ (m : MailboxState) passes. message-for Q k cpu caller law id timeout m (next_message m) passes.there refl may)
 walk Q k cpu caller law (call.RefMpf id word) may told = leaves-row Q (table.ref_mpf k id word) (λ (p : PoolState) passes. law.stays)
 walk Q k cpu caller law (call.RefMbx id word) may told = leaves-row Q (table.ref_mbx k id word) (λ (m : MailboxState) passes. law.stays)
+walk Q k cpu caller law (call.StaCyc id) may told =
+    leaves-row Q (table.sta_cyc k id) (λ (timer : Timer) passes. law.sets_timers (changed_at (started k.time.count) k.timers (cyclic_place id)))
+walk Q k cpu caller law (call.StpCyc id) may told =
+    leaves-row Q (table.stp_cyc k id) (λ (timer : Timer) passes. law.sets_timers (changed_at stopped k.timers (cyclic_place id)))
+walk Q k cpu caller law (call.StaAlm id time) may told =
+    leaves-row Q (table.sta_alm k id time) (λ (timer : Timer) passes. law.sets_timers (changed_at (asked_for k.time.count time) k.timers (alarm_place id)))
+walk Q k cpu caller law (call.StpAlm id) may told =
+    leaves-row Q (table.stp_alm k id) (λ (timer : Timer) passes. law.sets_timers (changed_at stopped k.timers (alarm_place id)))
+walk Q k cpu caller law (call.RefCyc id word) may told = leaves-row Q (table.ref_cyc k id word) (λ (timer : Timer) passes. law.stays)
+walk Q k cpu caller law (call.RefAlm id word) may told = leaves-row Q (table.ref_alm k id word) (λ (timer : Timer) passes. law.stays)
 
 -- Then tasks are given the priorities that they are to have.
 

@@ -6,7 +6,7 @@ use Rattle.brd_kernel.specs.declared.processor.InterruptLine.{InterruptLine}
 use Rattle.brd_kernel.specs.declared.processor.Executor.{Executor}
 use Rattle.brd_kernel.specs.declared.processor.Executor.TheVariants as executor
 use Rattle.brd_kernel.specs.declared.processor.Processor.{Processor}
-use Rattle.brd_kernel.specs.Kernel.{KernelState, processor_at, running_in, executor_in}
+use Rattle.brd_kernel.specs.Kernel.{KernelState, processor_at, running_in, executor_in, line_count}
 use Rattle.brd_kernel.specs.Services.{console_size}
 
 abbrev pub IsIdOrNone : Option ℕ → Type 0
@@ -38,7 +38,7 @@ HasPlace k cpu (executor.Task id) = id < length k.tasks.contexts
 pub record IsKernel (k : KernelState) : Type 0 where
   pub processors : length k.processors ≡ 9
   pub handler_contexts : length k.handler_contexts ≡ 9
-  pub lines : length k.lines ≡ 32
+  pub lines : length k.lines ≡ line_count k.standard
   pub console : length k.console ≤ console_size
   pub nobody : processor_at k 0 ≡ None
   pub running : run_tasks (are_there k.tasks) k.processors ≡ true

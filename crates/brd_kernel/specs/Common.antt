@@ -20,6 +20,7 @@ kernel_of c semaphores flags queues mutexes pools mailboxes = record {
   standard = c.standard;
   clock = c.clock;
   time = c.time;
+  timers = c.timers;
   tasks = c.tasks;
   semaphores = semaphores;
   flags = flags;

@@ -1,10 +1,12 @@
 -- The kernel: what it keeps, interrupts, spin locks, and what is seen of it.
-use Rattle.std.specs.Prelude.{◌≡◌, ℕ, ◌+◌, ◌==◌, Bool, true, false, not, ◌&&◌, ◌||◌, if◌then◌else◌}
+use Rattle.std.specs.Prelude.{ℕ, ◌+◌, ◌-◌, ◌*◌, ◌==◌, nat_lt, Bool, true, false, not, ◌&&◌, ◌||◌, if◌then◌else◌}
 use Rattle.std.specs.Prelude.{List, [], ◌∷◌, slice_index_or, slice_set, Option, None, Some, is_some}
 use Rattle.std.specs.Option.{option_map}
 use Rattle.brd_exec.specs.State.{State, opening}
 use Rattle.brd_tasks.specs.Tasks.{TaskTable, no_context, context_at, with_context}
 use Rattle.brd_time.specs.Time.{Time}
+use Rattle.brd_timers.specs.declared.timer.Timer.{Timer}
+use Rattle.brd_timers.specs.Timers.{timer_at}
 use Rattle.brd_objects.specs.declared.semaphore.Semaphore.{Semaphore}
 use Rattle.brd_objects.specs.declared.flag.Flag.{Flag}
 use Rattle.brd_objects.specs.declared.mutex.Mutex.{Mutex}
@@ -28,6 +30,7 @@ pub record KernelState : Type 0 where
   pub standard : Bool  -- it has the profile PROFILE(STANDARD), so the calls above 63; never changes
   pub clock : ℕ  -- what the system time was before the first tick; it goes on with the ticks, modulo 2^32
   pub time : Time  -- the ticks so far, and when waits end
+  pub timers : List (Option Timer)  -- the time handlers by their places: 128 of them with the profile, else none
   pub tasks : TaskTable
   pub semaphores : Table Semaphore  -- by ID, 256 of them, as the five below
   pub flags : Table Flag
@@ -39,7 +42,8 @@ pub record KernelState : Type 0 where
   pub processors : List (Option Processor)  -- by number, 9 of them: None at 0 and where the board has no such processor
   -- by the processor's number, 9 of them: the context of the handler that runs there; any, where none runs
   pub handler_contexts : List State
-  pub lines : List InterruptLine  -- by number, 32 of them
+  -- by number, 32 of them; with the profile 160, and those above 31 are of time handlers
+  pub lines : List InterruptLine
   pub console : List ℕ  -- the bytes that were written to it
 
 -- the processor of a number, where there is one
@@ -104,6 +108,32 @@ context_on k cpu = option_map (context_of k cpu) (executor_on k cpu)
 
 -- Interrupts.
 
+-- How many lines there are. Those from 0 to 31 are raised from outside, and have the handlers of DEF_INH; with the
+-- profile the others are raised by the kernel, and have the time handlers: the cyclic handler of ID c has line
+-- 30 + 2 * c, the alarm handler of ID a line 31 + 2 * a (own choice).
+abbrev pub line_count : Bool → ℕ
+line_count standard = if standard then 160 else 32
+
+-- the places of time handlers by their IDs, and the line of the time handler at a place
+
+abbrev pub cyclic_place : ℕ → ℕ
+cyclic_place id = 2 * id - 2
+
+abbrev pub alarm_place : ℕ → ℕ
+alarm_place id = 2 * id - 1
+
+abbrev pub timer_line : ℕ → ℕ
+timer_line place = place + 32
+
+-- the tick at which the time handler at a place is due next; None where it is stopped, or isn't there
+
+abbrev pub due_in : Option Timer → Option ℕ
+due_in None = None
+due_in (Some timer) = timer.due
+
+abbrev pub timer_due : KernelState → ℕ → Option ℕ
+timer_due k place = due_in (timer_at k.timers place)
+
 -- a line with nothing pending
 abbrev pub quiet : Option Handler → InterruptLine
 quiet handler = record { handler = handler; pending = false }
@@ -127,7 +157,7 @@ accepts (Some p) = not (is_some p.handling || p.locked || p.stopped)
 abbrev pub deliverable : KernelState → ℕ → Option ℕ
 deliverable k cpu = if accepts (processor_at k cpu) then pending_from cpu 0 k.lines else None
 
--- the line of a number; one above 31 has no handler
+-- the line of a number; one that isn't there has no handler
 abbrev pub line_at : KernelState → ℕ → InterruptLine
 line_at k line = slice_index_or k.lines line (quiet None)
 
@@ -135,15 +165,19 @@ line_at k line = slice_index_or k.lines line (quiet None)
 abbrev pub with_pending : KernelState → ℕ → KernelState
 with_pending k line = record k { lines = slice_set k.lines line (record (line_at k line) { pending = true }) }
 
--- an interrupt is raised: the line is pending from then on, if it has a handler
-abbrev pub raised : KernelState → ℕ → KernelState
-raised k line = if is_some (line_at k line).handler then with_pending k line else k
+-- a line that can be raised from outside: one of the lowest 32 that has a handler (the others the kernel raises itself)
+abbrev pub can_be_raised : KernelState → ℕ → Bool
+can_be_raised k line = nat_lt line 32 && is_some (line_at k line).handler
 
--- the context in which the handler of a line starts: at its address, all registers 0 but the line in $a0 (at 0, where
--- there is no handler)
+-- an interrupt is raised from outside: the line is pending from then on, if it can be raised
+abbrev pub raised : KernelState → ℕ → KernelState
+raised k line = if can_be_raised k line then with_pending k line else k
+
+-- the context in which the handler of a line starts: at its address, all registers 0 but its argument in $a0 (at 0,
+-- with the line there, where there is no handler)
 abbrev pub entry_of : ℕ → Option Handler → State
 entry_of line None = opening 0 line 0
-entry_of line (Some handler) = opening handler.address line 0
+entry_of line (Some handler) = opening handler.address handler.argument 0
 
 abbrev pub handles : KernelState → ℕ → ℕ → Option Processor → KernelState
 handles k cpu line None = k

@@ -16,6 +16,8 @@ pub use Rattle.brd_tasks.specs.Tasks
 pub use Rattle.brd_tasks.specs.Status
 pub use Rattle.brd_exec.specs.State
 pub use Rattle.brd_time.specs.Time
+pub use Rattle.brd_timers.specs.Timers
+pub use Rattle.brd_timers.specs.Times
 pub use Rattle.brd_objects.specs.Table
 pub use Rattle.brd_objects.specs.Semaphores
 pub use Rattle.brd_objects.specs.Flags

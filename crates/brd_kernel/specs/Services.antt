@@ -47,6 +47,8 @@ use Rattle.brd_objects.specs.declared.message.Message.{Message}
 use Rattle.brd_objects.specs.Mailboxes.{MailboxState, has_no_place, message_sent, message_outcome, message_received}
 use Rattle.brd_objects.specs.Mailboxes.{next_message, mailbox_awaited}
 use Rattle.brd_time.specs.Time.{due_of}
+use Rattle.brd_timers.specs.declared.timer.Timer.{Timer}
+use Rattle.brd_timers.specs.Timers.{timer_at, changed_at, started, asked_for, stopped}
 use Rattle.brd_kernel.specs.Waits.{forever, is_bad_timeout, due_after, due_by, priority_of}
 use Rattle.brd_kernel.specs.Waits.{with_wait, released_in, broken_off}
 use Rattle.brd_kernel.specs.Waits.{reordered_in, with_released, has_mutex_in, given_in, quits_in, base_in, prioritized}
@@ -63,7 +65,7 @@ use Rattle.brd_kernel.specs.declared.call.Reply.{Reply}
 use Rattle.brd_kernel.specs.declared.call.Reply.TheVariants.{Answer, Silent, Again}
 use Rattle.brd_kernel.specs.Answer.{e_ok, code_of}
 use Rattle.brd_kernel.specs.Kernel.{KernelState, processor_at, is_held, running_on, with_tasks, with_processor}
-use Rattle.brd_kernel.specs.Kernel.{unmarked, holding, letting_go, holds, spin_of}
+use Rattle.brd_kernel.specs.Kernel.{unmarked, holding, letting_go, holds, spin_of, cyclic_place, alarm_place}
 use Rattle.brd_kernel.specs.Dispatch.{is_same_task}
 use Rattle.brd_kernel.specs.Row.{Row, Served, served, never, ok, ok_with, ok_count, silent, again, or_refused}
 use Rattle.brd_kernel.specs.Row.{is_absent}
@@ -118,6 +120,14 @@ on_mailbox k id = on_object k id (object_at k.mailboxes id)
 abbrev pub on_spin_lock : KernelState → ℕ → Row Spin
 on_spin_lock k id = on_object k id (spin_of k id)
 
+-- a cyclic handler, and an alarm handler
+
+abbrev pub on_cyclic : KernelState → ℕ → Row Timer
+on_cyclic k id = on_object k id (timer_at k.timers (cyclic_place id))
+
+abbrev pub on_alarm : KernelState → ℕ → Row Timer
+on_alarm k id = on_object k id (timer_at k.timers (alarm_place id))
+
 -- the caller
 abbrev pub on_caller : KernelState → ℕ → Row Task
 on_caller k caller = on_something k (task_at k.tasks caller)
@@ -163,7 +173,7 @@ is_asleep status = is_sleep (waiting_of status)
 unfoldable pub priority_or_initial : ℕ → Task → ℕ
 priority_or_initial priority task = if priority == 0 then task.setup.priority else priority
 
--- 0 means the priority of the caller
+-- 0 means the base priority of the caller
 unfoldable pub priority_or_callers : ℕ → ℕ → ℕ
 priority_or_callers priority callers = if priority == 0 then callers else priority
 
@@ -291,6 +301,11 @@ pool_words p = id_or_none (first_in p.waiters) ∷ free_among p.blocks ∷ []
 -- T_RMBX: wtskid, and the address of the message that is received next, NULL where none is there
 abbrev pub mailbox_words : MailboxState → List ℕ
 mailbox_words m = id_or_none (first_in m.waiters) ∷ unwrap_or (next_message m) 0 ∷ []
+
+-- T_RCYC: cycstat, lefttim, and T_RALM: almstat, lefttim. TCYC_STP or TALM_STP 0, TCYC_STA or TALM_STA 1, and how many
+-- ticks pass before the one at which it is due; 0 where it is stopped.
+abbrev pub timer_words : ℕ → Timer → List ℕ
+timer_words count timer = bit_word (is_some timer.due) ∷ left_word count timer.due (is_some timer.due) ∷ []
 
 -- Effects that several calls share.
 
@@ -441,12 +456,12 @@ mig_tsk k cpu id to = record (on_task k id) {
 abbrev pub get_pid : KernelState → ℕ → Row (Unit {0})
 get_pid k cpu = record (on_nothing k) { does = λ x. ok_with k cpu }
 
--- 10 rot_rdq priority. Refuses: PAR not 0 to 16. On the caller's processor, the first ready task of that priority goes
--- after its equals.
+-- 10 rot_rdq priority. Refuses: PAR not 0 to 16. On the caller's processor, the first ready task of that priority,
+-- where 0 means the base priority of the caller, goes after its equals.
 abbrev pub rot_rdq : KernelState → ℕ → ℕ → ℕ → Row Processor
 rot_rdq k cpu caller priority = record (on_own_processor k cpu) {
   bad_par = nat_lt 16 priority;
-  does = λ p. ok (with_tasks k (turned k.tasks cpu (priority_or_callers priority (callers_priority k caller))));
+  does = λ p. ok (with_tasks k (turned k.tasks cpu (priority_or_callers priority (base_in (task_at k.tasks caller)))));
 }
 
 -- 11 get_tid, 56 iget_tid. Second result: the running task (for get_tid that is the caller), 0 where none runs.
@@ -698,7 +713,7 @@ mget_tid k on = record (on_own_processor k on) {
 abbrev pub mrot_rdq : KernelState → ℕ → ℕ → ℕ → Row Processor
 mrot_rdq k caller priority on = record (on_own_processor k on) {
   bad_par = nat_lt 16 priority || is_no_processor k on;
-  does = λ p. ok (with_tasks k (turned k.tasks on (priority_or_callers priority (callers_priority k caller))));
+  does = λ p. ok (with_tasks k (turned k.tasks on (priority_or_callers priority (base_in (task_at k.tasks caller)))));
 }
 
 -- 73 ref_tsk T0, word. Refuses: PAR above 8. Second result: that word of T_RTSK.
@@ -850,6 +865,46 @@ ref_mbx k id word = record (on_mailbox k id) {
   does = λ m. ok_with k (slice_index (mailbox_words m) word);
 }
 
+-- 93 sta_cyc C. Starts the cyclic handler, also where it works already.
+abbrev pub sta_cyc : KernelState → ℕ → Row Timer
+sta_cyc k id = record (on_cyclic k id) {
+  does = λ timer. ok (record k { timers = changed_at (started k.time.count) k.timers (cyclic_place id) });
+}
+
+-- 94 stp_cyc C. Stops the cyclic handler, if it works.
+abbrev pub stp_cyc : KernelState → ℕ → Row Timer
+stp_cyc k id = record (on_cyclic k id) {
+  does = λ timer. ok (record k { timers = changed_at stopped k.timers (cyclic_place id) });
+}
+
+-- 95 sta_alm A, time, 96 ista_alm A, time. Refuses: PAR above 0x7FFFFFFF. Starts the alarm handler: it is due after n
+-- ticks, and no more at a time that was asked for before.
+abbrev pub sta_alm : KernelState → ℕ → ℕ → Row Timer
+sta_alm k id time = record (on_alarm k id) {
+  bad_par = nat_lt longest_delay time;
+  does = λ timer. ok (record k { timers = changed_at (asked_for k.time.count time) k.timers (alarm_place id) });
+}
+
+-- 97 stp_alm A, 98 istp_alm A. Stops the alarm handler, if it is to come.
+abbrev pub stp_alm : KernelState → ℕ → Row Timer
+stp_alm k id = record (on_alarm k id) {
+  does = λ timer. ok (record k { timers = changed_at stopped k.timers (alarm_place id) });
+}
+
+-- 99 ref_cyc C, word. Refuses: PAR above 1. Second result: that word of T_RCYC.
+abbrev pub ref_cyc : KernelState → ℕ → ℕ → Row Timer
+ref_cyc k id word = record (on_cyclic k id) {
+  bad_par = nat_lt 1 word;
+  does = λ timer. ok_with k (slice_index (timer_words k.time.count timer) word);
+}
+
+-- 100 ref_alm A, word. Refuses: PAR above 1. Second result: that word of T_RALM.
+abbrev pub ref_alm : KernelState → ℕ → ℕ → Row Timer
+ref_alm k id word = record (on_alarm k id) {
+  bad_par = nat_lt 1 word;
+  does = λ timer. ok_with k (slice_index (timer_words k.time.count timer) word);
+}
+
 -- The rows by calls.
 
 abbrev pub serve_by : KernelState → ℕ → ℕ → Call → Result Served Ercd
@@ -911,6 +966,12 @@ serve_by k cpu caller (call.SndMbx b message priority) = served (snd_mbx k b mes
 serve_by k cpu caller (call.TrcvMbx b timeout) = served (trcv_mbx k caller b timeout)
 serve_by k cpu caller (call.RefMpf p word) = served (ref_mpf k p word)
 serve_by k cpu caller (call.RefMbx b word) = served (ref_mbx k b word)
+serve_by k cpu caller (call.StaCyc c) = served (sta_cyc k c)
+serve_by k cpu caller (call.StpCyc c) = served (stp_cyc k c)
+serve_by k cpu caller (call.StaAlm a time) = served (sta_alm k a time)
+serve_by k cpu caller (call.StpAlm a) = served (stp_alm k a)
+serve_by k cpu caller (call.RefCyc c word) = served (ref_cyc k c word)
+serve_by k cpu caller (call.RefAlm a word) = served (ref_alm k a word)
 
 -- the number of the running task of a processor; 0 where none runs
 abbrev pub caller_on : KernelState → ℕ → ℕ

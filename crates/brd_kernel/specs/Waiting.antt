@@ -1,8 +1,8 @@
 -- What holds of waits after every event. A task that waits for a semaphore, for bits of an event flag, for a mutex, for
--- a block of a memory pool, for a message of a mailbox, or to send to or receive from a data queue stands in the waiting
--- list for just that, once and with its priority, and in no other waiting list of an object; where that list is in the
--- order of priority, no task stands in front of one with a higher priority; no task waits for something that it could
--- have at once; and only a task that waits has a due tick.
+-- a block of a memory pool, for a message of a mailbox, or to send to or receive from a data queue stands in the
+-- waiting list for just that, once and with its priority, and in no other waiting list of an object; where that list is
+-- in the order of priority, no task stands in front of one with a higher priority; no task waits for something that it
+-- could have at once; and only a task that waits has a due tick.
 use Rattle.std.specs.Prelude.{◌≡◌, ℕ, Bool, true, false, List, [], map, Option, None, Some, IfSome, is_some, length}
 use Rattle.std.specs.List.{AllByRecursion}
 use Rattle.brd_queue.specs.declared.entry.QueueEntry.{QueueEntry}

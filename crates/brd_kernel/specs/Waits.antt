@@ -15,6 +15,7 @@ use Rattle.brd_tasks.specs.Tasks.{TaskTable, task_at, through, released_with, en
 use Rattle.brd_tasks.specs.Tasks.{changed, lifted_to, noted, without_activation}
 use Rattle.brd_tasks.specs.Tasks.{view_of}
 use Rattle.brd_time.specs.Time.{Time, due_of, with_due, last_count, advanced, due_from}
+use Rattle.brd_timers.specs.Timers.{is_due_at, passed_at}
 use Rattle.brd_objects.specs.declared.semaphore.Semaphore.{Semaphore}
 use Rattle.brd_config.specs.declared.objects.Protocol.{Protocol}
 use Rattle.brd_config.specs.declared.objects.Protocol.TheVariants as protocol
@@ -32,7 +33,8 @@ use Rattle.brd_objects.specs.Mailboxes.{MailboxState, mailbox_left, mailbox_reor
 use Rattle.brd_kernel.specs.declared.processor.Processor.{Processor}
 use Rattle.brd_kernel.specs.declared.call.Ercd.TheVariants.{Tmout}
 use Rattle.brd_kernel.specs.Answer.{e_ok, code_of}
-use Rattle.brd_kernel.specs.Kernel.{KernelState, with_tasks, with_processor, processor_at, unmarked}
+use Rattle.brd_kernel.specs.Kernel.{KernelState, with_tasks, with_processor, processor_at, unmarked, line_at}
+use Rattle.brd_kernel.specs.Kernel.{timer_line}
 
 -- How long a call may wait, as its caller says it: a signed number of ticks, of which -1 (TMO_FEVR) is without an end
 -- and 0 (TMO_POL) not at all.
@@ -294,9 +296,30 @@ abbrev pub all_timed_out : KernelState → List ℕ → KernelState
 all_timed_out k [] = k
 all_timed_out k (id ∷ ids) = all_timed_out (timed_out k id) ids
 
--- a tick is counted, and the waits end whose tick has come, by ascending ID
+-- Time handlers, which are there in the profile PROFILE(STANDARD) alone. Where the time of one has come its line is
+-- pending, as by an interrupt from outside, and it has its next time, if it has one.
+
+abbrev pub rung_at : KernelState → ℕ → KernelState
+rung_at k place = record k {
+  timers = passed_at k.time.count k.timers place;
+  lines =
+      if is_due_at k.time.count k.timers place
+      then slice_set k.lines (timer_line place) (record (line_at k (timer_line place)) { pending = true })
+      else k.lines;
+}
+
+-- those of the places below a number
+unfoldable pub rung_below : KernelState → ℕ → KernelState
+rung_below k zero = k
+rung_below k (suc place) = rung_at (rung_below k place) place
+
+-- all of them
+abbrev pub rung : KernelState → KernelState
+rung k = if k.standard then rung_below k 128 else k
+
+-- a tick is counted: the waits end whose tick has come, by ascending ID, and then the time of handlers has come
 abbrev pub ticked_on : KernelState → Time → KernelState
-ticked_on k time = prioritized (all_timed_out (record k { time = time }) (due_from time 0))
+ticked_on k time = rung (prioritized (all_timed_out (record k { time = time }) (due_from time 0)))
 
 -- a tick passes, unless the last one has been counted
 abbrev pub ticked : KernelState → KernelState

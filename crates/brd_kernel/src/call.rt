@@ -122,6 +122,18 @@ pub enum Call {
     RefMpf(u32, u32),
     /// Tells a word of what is known of a mailbox (ID, word).
     RefMbx(u32, u32),
+    /// Starts a cyclic handler (ID).
+    StaCyc(u32),
+    /// Stops a cyclic handler (ID).
+    StpCyc(u32),
+    /// Starts an alarm handler (ID, time).
+    StaAlm(u32, u32),
+    /// Stops an alarm handler (ID).
+    StpAlm(u32),
+    /// Tells a word of what is known of a cyclic handler (ID, word).
+    RefCyc(u32, u32),
+    /// Tells a word of what is known of an alarm handler (ID, word).
+    RefAlm(u32, u32),
 }
 
 /// A state of the processor that a call comes from.

@@ -8,6 +8,7 @@ use brd_base::{NoMemory, copy_with_room};
 use brd_exec::Context;
 use brd_tasks::{TaskId, Tasks};
 use brd_time::Timeouts;
+use brd_timers::Timers;
 
 /// A kernel without the objects for which tasks wait.
 #[derive(Drop)]
@@ -20,6 +21,8 @@ pub struct Common {
     pub clock: u32,
     /// The ticks so far, and when waits end.
     pub time: Timeouts,
+    /// By place: the time handlers.
+    pub timers: Timers,
     /// The tasks.
     pub tasks: Tasks,
     /// By ID: whether there is a spin lock.
@@ -49,6 +52,7 @@ impl Common {
             standard: self.standard,
             clock: self.clock,
             time: self.time.try_copy()?,
+            timers: self.timers.try_copy()?,
             tasks: self.tasks.try_copy()?,
             spin_locks: copy_with_room(&self.spin_locks, 0)?,
             processors: self.processors,

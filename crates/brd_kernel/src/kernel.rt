@@ -40,10 +40,11 @@ mod profile;
 mod saved;
 mod serve;
 mod spin_locks;
+mod time_handlers;
 mod waits;
 
 use crate::common::Common;
-use crate::making::{idle_processors, lines_of, no_contexts, spin_locks_of};
+use crate::making::{idle_processors, lines_of, no_contexts, spin_locks_of, timers_of};
 use crate::processor::{Executor, LineSetup, Marks, Processor, Spin, Standing, holder};
 use brd_base::{NoMemory, same_slices};
 use brd_config::{
@@ -105,6 +106,7 @@ impl Drop for Kernel {
 impl Kernel {
     /// A board's kernel with this many processors, these tasks, none of them started, these interrupt handlers and
     /// these objects, with the profile or without. A line that isn't named has no handler, and nothing is pending.
+    /// Lines above 31 are there with the profile alone.
     pub fn new(
         alloc: Global,
         standard: bool,
@@ -132,12 +134,13 @@ impl Kernel {
                 standard,
                 clock: 0,
                 time: Timeouts::new(alloc)?,
+                timers: timers_of(alloc, standard, lines)?,
                 tasks: Tasks::new(alloc, tasks)?,
                 spin_locks: spin_locks_of(alloc, spin_locks)?,
                 processors: idle_processors(processors),
                 executing: [None; 9],
                 handler_contexts: no_contexts(alloc)?,
-                lines: lines_of(alloc, lines)?,
+                lines: lines_of(alloc, standard, lines)?,
                 console: Vec::with_capacity(alloc, CONSOLE_SIZE)?,
                 pending: false,
             },
@@ -175,11 +178,15 @@ impl Kernel {
             && self.has_same_processors(other)
     }
 
-    /// Whether both have the profile or neither, and the same system time before the first tick.
+    /// Whether both have the profile or neither, the same system time before the first tick, and the same time
+    /// handlers.
     fn has_same_profile(&self, other: &Kernel) -> bool
-        ensures { Decides result ((self.now.standard ≡ other.now.standard) × (self.now.clock ≡ other.now.clock)) }
+        ensures { Decides result ((self.now.standard ≡ other.now.standard) × (self.now.clock ≡ other.now.clock)
+            × (self.now.timers ≡ other.now.timers)) }
     {
-        self.common.standard == other.common.standard && self.common.clock == other.common.clock
+        self.common.standard == other.common.standard
+            && self.common.clock == other.common.clock
+            && self.common.timers.same(&other.common.timers)
     }
 
     /// Whether both have the same time, tasks and objects.
@@ -507,8 +514,8 @@ impl Kernel {
         true
     }
 
-    /// A tick passes, and the waits end whose tick has come. Answers whether it was counted; at the end of time it
-    /// isn't, and nothing changes.
+    /// A tick passes: the waits end whose tick has come, and then the lines of time handlers are pending whose time has
+    /// come. Answers whether it was counted; at the end of time it isn't, and nothing changes.
     pub fn tick(&mut self) -> bool
         ensures is { self.new ≡ ticked self.old }
         ensures counted { result ≡ nat_lt self.old.time.count last_count }
@@ -518,6 +525,7 @@ impl Kernel {
         }
         self.end_waits();
         self.prioritize();
+        self.ring();
         true
     }
 }

@@ -45,14 +45,15 @@ pub fn dispatch_gives_each_its_first()
 /// a semaphore, for bits of an event flag, for a mutex, for a block of a memory pool, for a message of a mailbox, or to
 /// send to or receive from a data queue stands once, with its priority, in the waiting list for just that, and in no
 /// other waiting list of an object; where that list is in the order of priority, no task stands in front of one with a
-/// higher priority; no task waits for something that it could have at once; only a task that waits has a due tick, and a
-/// delay has one.
+/// higher priority; no task waits for something that it could have at once; only a task that waits has a due tick, and
+/// a delay has one.
 pub fn who_waits_stands_in_its_list()
     ensures made { (standard : Bool) (processors : ℕ) (setups : List SetupOf) (lines : List LineOf)
         (semaphores : List SemaphoreConfig) (flags : List FlagConfig) (queues : List QueueConfig)
         (spin_locks : List SpinLockConfig) (mutexes : List MutexConfig) (pools : List PoolSetup)
         (mailboxes : List MailboxConfig) →
-        WaitsAreKept (made_kernel standard processors setups lines semaphores flags queues spin_locks mutexes pools mailboxes) }
+        WaitsAreKept (made_kernel standard processors setups lines semaphores flags queues spin_locks mutexes pools
+        mailboxes) }
     ensures call { (k : KernelState) (cpu : ℕ) (asked : CallOf) → WaitsAreKept k →
         WaitsAreKept (serve_of k cpu asked).kernel }
     ensures tick { (k : KernelState) → WaitsAreKept k → WaitsAreKept (ticked k) }
@@ -75,7 +76,8 @@ pub fn a_spin_lock_has_one_holder()
         (semaphores : List SemaphoreConfig) (flags : List FlagConfig) (queues : List QueueConfig)
         (spin_locks : List SpinLockConfig) (mutexes : List MutexConfig) (pools : List PoolSetup)
         (mailboxes : List MailboxConfig) →
-        AreLocks (made_kernel standard processors setups lines semaphores flags queues spin_locks mutexes pools mailboxes) }
+        AreLocks (made_kernel standard processors setups lines semaphores flags queues spin_locks mutexes pools
+        mailboxes) }
     ensures tick { (k : KernelState) → AreLocks k → AreLocks (ticked k) }
     ensures fault { (k : KernelState) (cpu : ℕ) → AreLocks k → AreLocks (ended_by_fault k cpu) }
     ensures dispatch { (k : KernelState) → AreLocks k → AreLocks (dispatched k) }

@@ -16,6 +16,7 @@ mod processor;
 pub use brd_tasks::{Request, TaskId, TaskSetup, TaskState, TaskView, WaitKind, WaitReason};
 pub use call::{Call, Ercd, Reply, Sensed};
 pub use kernel::{Kernel, SavedKernel};
+pub use lines::{alarm_line, cyclic_line};
 pub use processor::{
     Executor, Handler, InterruptLine, LineSetup, Marks, Processor, Spin, Standing,
 };

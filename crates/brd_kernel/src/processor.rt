@@ -16,6 +16,7 @@ ghost use Rattle.brd_kernel.specs.Always.{task_executing};
 
 use brd_base::Same;
 use brd_tasks::TaskId;
+use brd_timers::Course;
 
 /// What a processor is doing.
 #[derive(Clone, Copy, Debug, PartialEq, Eq)]
@@ -190,22 +191,26 @@ pub fn holds(processor: Option<Processor>, id: u8) -> bool
     }
 }
 
-/// The handler of an interrupt line (DEF_INH).
+/// The handler of an interrupt line (DEF_INH, CRE_CYC, CRE_ALM).
 #[derive(Clone, Copy, PartialEq, Eq)]
 pub struct Handler {
     /// The processor that handles the line's interrupts.
     pub cpu: u8,
     /// Where the handler starts.
     pub address: u32,
+    /// What it finds in $a0 when it starts.
+    pub argument: u32,
 }
 
-/// An interrupt line that has a handler (DEF_INH).
+/// An interrupt line that has a handler (DEF_INH, CRE_CYC, CRE_ALM).
 #[derive(Clone, Copy, PartialEq, Eq)]
 pub struct LineSetup {
-    /// Its number: up to 31.
+    /// Its number: up to 31, or that of a time handler.
     pub line: u8,
     /// Its handler.
     pub handler: Handler,
+    /// When the kernel raises it, if it does: of a time handler.
+    pub course: Option<Course>,
 }
 
 /// An interrupt line.

@@ -25,9 +25,9 @@ use Rattle.brd_reach.specs.Reaching.{Guards}
 use Rattle.brd_reach.proofs.StepLemmas.{hidden-lasts}
 use Rattle.brd_reach.proofs.WalkLemmas.{next-one, after-more}
 use Rattle.brd_reach.proofs.AlikeLemmas.{alike-lags, fails-behind}
-use Rattle.brd_lazy.specs.Blocks.{after_steps, MayCome}
+use Rattle.brd_lazy.specs.Blocks.{after_steps, end_of, MayCome}
 use Rattle.brd_lazy.specs.Trees.{IsCovered, IsLazyTree, IsAhead, LagsBehind, LazyLaw, NoneLaw}
-use Rattle.brd_lazy.proofs.StepLemmas.{stepper-like, stepper-on, last-one, end_of, ends-at, Walked, walk}
+use Rattle.brd_lazy.proofs.StepLemmas.{stepper-like, stepper-on, last-one, ends-at, Walked, walk}
 use Rattle.brd_lazy.proofs.RoomLemmas.{some-events, ahead-left, ahead-richer, richer-ahead, ahead-tick, ahead-raise, ahead-steps, ahead-waits}
 
 -- a place of the tree that lags behind a place, the agents that lag being live there

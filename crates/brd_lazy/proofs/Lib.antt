@@ -3,3 +3,6 @@ pub mod RoomLemmas
 pub mod FollowLemmas
 pub mod ChargeLemmas
 pub mod ScheduleLemmas
+pub mod FindLemmas
+pub mod SpotLemmas
+pub mod LoopLemmas

@@ -6,8 +6,8 @@ use Rattle.brd_board.specs.declared.event.Event.{Event}
 use Rattle.brd_board.specs.declared.event.Event.TheVariants.{Step, Tick, Raise}
 use Rattle.brd_explore.specs.declared.bounds.Bounds.{Bounds}
 use Rattle.brd_explore.specs.Schedules.{Place, IsRicher, preempts, one_if, affords, affords_one, spent, is_left, next}
+use Rattle.brd_lazy.specs.Blocks.{left_by}
 use Rattle.brd_lazy.specs.Trees.{differ, IsAhead}
-use Rattle.brd_lazy.proofs.StepLemmas.{left_by}
 
 -- Preemptions.
 

@@ -19,7 +19,7 @@ use Rattle.brd_lazy.proofs.ChargeLemmas.{IsSum, sums, no-more}
 
 -- One list after the other.
 
-place-then : (p : Place) (es more : List Event) → place_after p (es ++ more) ≡ place_after (place_after p es) more
+pub place-then : (p : Place) (es more : List Event) → place_after p (es ++ more) ≡ place_after (place_after p es) more
 place-then p [] more = refl
 place-then p (e ∷ es) more = elim (cases_Bool (does p.board e)) [
   | inl did ↦
@@ -30,7 +30,7 @@ place-then p (e ∷ es) more = elim (cases_Bool (does p.board e)) [
       ≡ place_after (if test then place_after (next p e) es else place_after p es) more) (sym none) (place-then p es more)
 ]
 
-within-then : (among : List Event) (p : Place) (es more : List Event) → IsWithin among p es → IsWithin among (place_after p es) more →
+pub within-then : (among : List Event) (p : Place) (es more : List Event) → IsWithin among p es → IsWithin among (place_after p es) more →
     IsWithin among p (es ++ more)
 within-then among p [] more first second = second
 within-then among p (e ∷ es) more first second = (
@@ -108,7 +108,7 @@ block-within by among p cpu (suc n) one left room hidden =
       (λ none. absurd (false≢true (sym none ∙ hidden-does by p.board cpu first))),
     )
 
-rich-same : (p : Place) → IsRicher p p
+pub rich-same : (p : Place) → IsRicher p p
 rich-same p = record {
   board = refl;
   last = refl;

@@ -10,7 +10,6 @@ use Rattle.brd_board.specs.declared.event.Event.TheVariants.{Step}
 use Rattle.brd_board.specs.declared.event.Report.TheVariants as report
 use Rattle.brd_board.specs.Board.{BoardState, Happened, reported, happens}
 use Rattle.brd_journal.specs.Still.{did_nothing}
-use Rattle.brd_explore.specs.declared.bounds.Bounds.{Bounds}
 use Rattle.brd_explore.specs.Schedules.{Place, does, stepper, preempts, one_if, spent, next, place_after}
 use Rattle.brd_frames.specs.Agents.{Agent, context_in}
 use Rattle.brd_frames.specs.Going.{IsNext}
@@ -19,7 +18,7 @@ use Rattle.brd_frames.proofs.CommuteLemmas.{agent-steps}
 use Rattle.brd_frames.proofs.ReduceLemmas.{Like, like-invisible, like-next}
 use Rattle.brd_blocks.specs.Stepping.{IsHidden, IsVisible}
 use Rattle.brd_reach.proofs.WalkLemmas.{next-one, invisible-same, after-more, less-or-same}
-use Rattle.brd_lazy.specs.Blocks.{after_steps, AreHidden, MayCome, IsKept}
+use Rattle.brd_lazy.specs.Blocks.{after_steps, end_of, AreHidden, MayCome, IsKept}
 
 -- What a step does that nobody else can see.
 
@@ -66,18 +65,6 @@ hidden-last by b cpu last it =
 
 pub preempts-own : (last : Option ℕ) (cpu : ℕ) → last ≡ Some cpu → preempts last cpu ≡ false
 preempts-own last cpu is = ap (λ l. preempts l cpu) is ∙ ap not (eq-eqb cpu cpu refl)
-
--- so many steps of a processor have been taken from what was left, and one preemption where the first of them preempts
-abbrev pub left_by : Place → ℕ → ℕ → Bounds
-left_by p cpu count =
-    record p.left { events = p.left.events - count; preemptions = p.left.preemptions - one_if (preempts p.last cpu) }
-
-abbrev pub end_of : Place → ℕ → ℕ → Place
-end_of p cpu count = record {
-  board = after_steps p.board cpu (suc count);
-  left = left_by p cpu (suc count);
-  last = stepper (after_steps p.board cpu (suc count)) p.last (Step cpu);
-}
 
 pub first-hidden : (by : Sharing) (b : BoardState) (cpu n : ℕ) → AreHidden by b cpu (suc n) → IsHidden by b cpu
 first-hidden by b cpu n hidden = hidden 0 (omega arith)

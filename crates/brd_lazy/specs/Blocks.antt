@@ -1,10 +1,11 @@
 -- Blocks of a processor: some instructions that nobody else can see, and then one that others may see. What others may
 -- see, and who may touch what, a sharing says (brd_frames, `Sharing`).
-use Rattle.std.specs.Prelude.{◌≡◌, ◌⊎◌, ℕ, ◌<◌, true, List, replicate}
+use Rattle.std.specs.Prelude.{◌≡◌, ◌⊎◌, ℕ, suc, ◌-◌, ◌<◌, true, List, replicate}
 use Rattle.brd_board.specs.declared.event.Event.{Event}
 use Rattle.brd_board.specs.declared.event.Event.TheVariants.{Step}
 use Rattle.brd_board.specs.Board.{BoardState, after}
-use Rattle.brd_explore.specs.Schedules.{Place, is_left, IsAmong}
+use Rattle.brd_explore.specs.declared.bounds.Bounds.{Bounds}
+use Rattle.brd_explore.specs.Schedules.{Place, is_left, preempts, one_if, stepper, IsAmong}
 use Rattle.brd_frames.specs.Agents.{Agent}
 use Rattle.brd_frames.specs.Going.{IsNext}
 use Rattle.brd_frames.specs.Lagging.{Sharing}
@@ -36,3 +37,16 @@ pub record IsKept (by : Sharing) (among : List Event) (p : Place) : Type 0 where
   pub blocks : (cpu count : ℕ) (who : Agent) → MayCome among p (Step cpu) → IsNext p.board cpu who →
       count < p.left.events → AreHidden by p.board cpu count →
       IsHidden by (after_steps p.board cpu count) cpu ⊎ IsVisible by (after_steps p.board cpu count) cpu
+
+-- What is left after so many steps of a processor, of which the first one preempts who has stepped last.
+abbrev pub left_by : Place → ℕ → ℕ → Bounds
+left_by p cpu count =
+    record p.left { events = p.left.events - count; preemptions = p.left.preemptions - one_if (preempts p.last cpu) }
+
+-- the place after a block with so many instructions that nobody else can see
+abbrev pub end_of : Place → ℕ → ℕ → Place
+end_of p cpu count = record {
+  board = after_steps p.board cpu (suc count);
+  left = left_by p cpu (suc count);
+  last = stepper (after_steps p.board cpu (suc count)) p.last (Step cpu);
+}

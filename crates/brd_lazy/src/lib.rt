@@ -5,4 +5,11 @@
 //! which places a search has to go, and which it may leave out.
 #![tactic(auto)]
 
+mod block;
+mod bounds;
+mod finding;
 pub mod laws;
+mod spots;
+mod visit;
+
+pub use finding::{Gone, Lazily, find_lazily};

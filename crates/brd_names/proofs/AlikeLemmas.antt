@@ -17,7 +17,7 @@ use Rattle.brd_kernel.specs.declared.processor.Processor.{Processor}
 use Rattle.brd_kernel.specs.declared.processor.Standing.{Standing}
 use Rattle.brd_kernel.specs.declared.processor.Executor.{Executor}
 use Rattle.brd_kernel.specs.declared.processor.Executor.TheVariants as executor
-use Rattle.brd_kernel.specs.Kernel.{processor_at, executor_on, context_of, deliverable, line_at}
+use Rattle.brd_kernel.specs.Kernel.{processor_at, executor_on, context_of, deliverable, can_be_raised}
 use Rattle.brd_kernel.specs.Waits.{shown_until}
 use Rattle.brd_board.specs.Executing.{executed_by, executed_in}
 use Rattle.brd_board.specs.declared.event.Event.{Event}
@@ -98,7 +98,7 @@ on-leaves b (Step cpu) told = step-leaves b cpu (processor_at b.kernel cpu) told
 on-leaves b Tick told =
     either (nat_lt b.kernel.time.count last_count) b _ _ (λ told. absurd (false≢true (sym told))) (λ told. alike-same b) told
 on-leaves b (Raise line) told =
-    either (is_some (line_at b.kernel line).handler) b _ _
+    either (can_be_raised b.kernel line) b _ _
     (λ told. record { tasks = λ id. refl; standings = λ cpu. refl; off = refl }) (λ told. alike-same b) told
 
 -- An ordinary instruction, and an event that did nothing, change no task, no standing, and not whether the board is off.

@@ -25,6 +25,7 @@ use Rattle.brd_objects.specs.DataQueues.{DataQueueState, sent, outcome, forced, 
 use Rattle.brd_objects.specs.Mutexes.{given, next_owner_in}
 use Rattle.brd_objects.specs.Pools.{PoolState, given_back, next_holder}
 use Rattle.brd_objects.specs.Mailboxes.{MailboxState, message_sent, message_outcome}
+use Rattle.brd_kernel.proofs.RingLemmas.{rung-keeps}
 use Rattle.brd_kernel.specs.declared.processor.Processor.{Processor}
 use Rattle.brd_kernel.specs.declared.processor.Executor.{Executor}
 use Rattle.brd_kernel.specs.declared.processor.Executor.TheVariants as executor
@@ -258,6 +259,7 @@ call-law them k cpu has =
       writes = λ word. has;
       ends_all = has;
       sets_clock = λ clock. has;
+      sets_timers = λ timers. has;
     }
 
 calls-keep : (them : List Bool) (k : KernelState) (cpu : ℕ) → Calls (Has them) (Has them) k cpu
@@ -277,7 +279,8 @@ them-kept them = record {
   tick = λ k has.
       let now : KernelState = record k { time = advanced k.time } in
       let ids : List ℕ = due_from (advanced k.time) 0 in
-      prioritized-has them (all_timed_out now ids) (timed-has them now ids has);
+      rung-keeps (Has them) (prioritized (all_timed_out now ids)) (λ x timers lines was. was)
+      (prioritized-has them (all_timed_out now ids) (timed-has them now ids has));
   raise = λ k line has. has;
   dispatch = λ k has. has;
 }

@@ -1,6 +1,6 @@
 -- How a line of a trace is written.
-use Rattle.std.specs.Prelude.{ℕ, ◌-◌, ◌^◌, ◌==◌, nat_lt, if◌then◌else◌, List, [], ◌∷◌, ◌++◌, length, take, codes}
-use Rattle.std.specs.Prelude.{Option, Some, None}
+use Rattle.std.specs.Prelude.{ℕ, ◌-◌, ◌/◌, ◌%◌, ◌^◌, ◌==◌, nat_lt, if◌then◌else◌, List, [], ◌∷◌, ◌++◌, length, take}
+use Rattle.std.specs.Prelude.{codes, Option, Some, None}
 use Rattle.std.specs.Fmt.{decimal}
 use Rattle.brd_kernel.specs.declared.processor.Standing.{Standing}
 use Rattle.brd_mem.specs.declared.image.Symbol.{Symbol}
@@ -22,6 +22,17 @@ left width cell = cell ++ 32 ∷ blanks (width - 1 - length cell)
 abbrev pub named_text : List ℕ → ℕ → List ℕ
 named_text name n = name ++ 32 ∷ decimal n
 
+-- what is called by a word and the number of an interrupt line; from line 32 on by the line's time handler: the cyclic
+-- handler of ID c has line 30 + 2 * c, the alarm handler of ID a line 31 + 2 * a
+
+abbrev pub time_handler_text : ℕ → List ℕ
+time_handler_text line =
+    if line % 2 == 0 then named_text (codes "cyclic handler") ((line - 30) / 2)
+    else named_text (codes "alarm handler") ((line - 31) / 2)
+
+abbrev pub called_text : List ℕ → ℕ → List ℕ
+called_text word line = if nat_lt line 32 then named_text word line else time_handler_text line
+
 -- a count of things, whose name has an s unless there is one
 abbrev pub count_text : ℕ → List ℕ → List ℕ
 count_text n name = decimal n ++ 32 ∷ name ++ (if n == 1 then [] else codes "s")
@@ -36,7 +47,7 @@ cpu_text (Some cpu) = decimal cpu
 
 abbrev pub who_text : Option Standing → List ℕ
 who_text (Some (Standing.Task id)) = named_text (codes "task") id
-who_text (Some (Standing.Handler line)) = named_text (codes "handler") line
+who_text (Some (Standing.Handler line)) = called_text (codes "handler") line
 who_text _ = []
 
 abbrev pub where_text : List Symbol → Option ℕ → List ℕ

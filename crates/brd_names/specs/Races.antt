@@ -3,13 +3,13 @@ use Rattle.std.specs.Prelude.{◌-◌, ℕ, nat_lt, Bool, if◌then◌else◌, L
 use Rattle.std.specs.List.{flat_map}
 use Rattle.brd_order.specs.declared.deed.{Touch.Touch, Mark.Mark, Race.Race}
 use Rattle.brd_names.specs.declared.names.Names.{Names}
-use Rattle.brd_names.specs.Lines.{named_text, count_text}
+use Rattle.brd_names.specs.Lines.{named_text, called_text, count_text}
 use Rattle.brd_names.specs.Addresses.{code_text, datum_text}
 
 -- a task's strand is its ID, a handler's 256 and its line
 abbrev pub strand_text : ℕ → List ℕ
 strand_text strand =
-    if nat_lt strand 256 then named_text (codes "task") strand else named_text (codes "handler") (strand - 256)
+    if nat_lt strand 256 then named_text (codes "task") strand else called_text (codes "handler") (strand - 256)
 
 abbrev pub touch_text : Touch → List ℕ
 touch_text touch =

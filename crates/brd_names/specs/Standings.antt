@@ -1,10 +1,10 @@
 -- How a board stands: what its processors do, which tasks are there, and which events may change that.
-use Rattle.std.specs.Prelude.{ℕ, ◌==◌, Bool, false, List, [], ◌∷◌, map, filter, codes, Option, None, Some, is_some}
-use Rattle.std.specs.Prelude.{true}
+use Rattle.std.specs.Prelude.{ℕ, ◌==◌, Bool, false, List, [], ◌∷◌, ◌++◌, map, filter, codes}
+use Rattle.std.specs.Prelude.{true, Option, None, Some, is_some}
 use Rattle.std.specs.List.{list_any, range_with_len}
 use Rattle.brd_kernel.specs.declared.processor.Standing.{Standing}
 use Rattle.brd_board.specs.Board.{BoardState, task_of, standing_of}
-use Rattle.brd_names.specs.Lines.{named_text}
+use Rattle.brd_names.specs.Lines.{named_text, called_text}
 use Rattle.brd_board.specs.declared.event.Report.{Report}
 use Rattle.brd_board.specs.declared.event.Report.TheVariants as report
 
@@ -52,4 +52,4 @@ standing_text None = []
 standing_text (Some Standing.Idle) = codes " idle"
 standing_text (Some Standing.Stopped) = codes " stopped"
 standing_text (Some (Standing.Task id)) = named_text (codes " runs task") id
-standing_text (Some (Standing.Handler line)) = named_text (codes " runs handler") line
+standing_text (Some (Standing.Handler line)) = codes " runs " ++ called_text (codes "handler") line

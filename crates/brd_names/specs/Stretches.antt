@@ -1,5 +1,5 @@
 -- Events that change nothing, of which those of one kind are one line, with how many they are.
-use Rattle.std.specs.Prelude.{ℕ, ◌+◌, ◌-◌, ◌^◌, ◌==◌, min, if◌then◌else◌, List, ◌++◌, codes, Option, Some, None}
+use Rattle.std.specs.Prelude.{ℕ, ◌+◌, ◌-◌, ◌^◌, ◌==◌, nat_lt, min, if◌then◌else◌, List, ◌++◌, codes, Option, Some, None}
 use Rattle.std.specs.Fmt.{decimal}
 use Rattle.brd_kernel.specs.declared.processor.Standing.{Standing}
 use Rattle.brd_names.specs.declared.line.Heading.{Heading}
@@ -44,6 +44,10 @@ spins_text it lock =
 abbrev pub raises_text : Stretch → ℕ → List ℕ → List ℕ
 raises_text it line what = named_text (codes "line") line ++ what ++ count_text it.count (codes "raise")
 
+-- why a raise of a line finds no handler: those from 32 on are raised by ticks alone
+abbrev pub unraised_text : ℕ → List ℕ
+unraised_text line = if nat_lt line 32 then codes " has no handler: " else codes " is raised by ticks alone: "
+
 abbrev pub late_text : Stretch → List ℕ
 late_text it = codes "time is over: " ++ count_text it.count (codes "tick") ++ codes " not counted"
 
@@ -59,7 +63,7 @@ stretch_text it (NoProcessor cpu) = codes "no such processor, " ++ steps_text it
 stretch_text it (Spins spin) = spins_text it spin.lock
 stretch_text it Tick = ticks_text it
 stretch_text it TimeOver = late_text it
-stretch_text it (NoLine line) = raises_text it line (codes " has no handler: ")
+stretch_text it (NoLine line) = raises_text it line (unraised_text line)
 stretch_text it (Again line) = raises_text it line (codes " is pending already: ")
 stretch_text it Off = codes "off: " ++ count_text it.count (codes "event") ++ codes " left out"
 

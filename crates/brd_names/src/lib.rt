@@ -17,6 +17,7 @@ pub use races::put_races;
 pub use standings::{Standings, put_standing};
 pub use stretch::{Quiet, SpinningTask, Stretch};
 pub use text::{
-    printable, put, put_blanks, put_comma, put_count, put_named, put_number, put_signed, put_word,
+    printable, put, put_blanks, put_called, put_comma, put_count, put_named, put_number,
+    put_signed, put_word,
 };
 pub use waits::{put_wait, state_name};

@@ -5,7 +5,7 @@ ghost use Rattle.brd_names.specs.Lines.{cpu_text, who_text, where_text, left, ri
 ghost use Rattle.std.specs.Fmt.{decimal};
 
 use crate::names::Names;
-use crate::text::{put_blanks, put_named, put_number};
+use crate::text::{put_blanks, put_called, put_named, put_number};
 use brd_base::NoMemory;
 use brd_board::Standing;
 use std::alloc::Global;
@@ -138,7 +138,7 @@ pub fn put_who(alloc: Global, out: &mut Vec<u8>, who: Option<Standing>) -> Resul
 {
     match who {
         Some(Standing::Task(id)) => put_named(alloc, out, "task", u64::from(id)),
-        Some(Standing::Handler(line)) => put_named(alloc, out, "handler", u64::from(line)),
+        Some(Standing::Handler(line)) => put_called(alloc, out, "handler", u16::from(line)),
         _ => Ok(()),
     }
 }

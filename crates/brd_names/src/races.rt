@@ -12,7 +12,7 @@ ghost use Rattle.brd_names.specs.Races.{
 };
 
 use crate::names::Names;
-use crate::text::{put, put_count, put_named};
+use crate::text::{put, put_called, put_count, put_named};
 use brd_base::NoMemory;
 use brd_order::{Mark, Race, Touch};
 use std::alloc::Global;
@@ -89,7 +89,7 @@ fn put_strand(alloc: Global, strand: u16, out: &mut Vec<u8>) -> Result<(), NoMem
     if strand < 256 {
         return put_named(alloc, out, "task", u64::from(strand));
     }
-    put_named(alloc, out, "handler", u64::from(strand - 256))
+    put_called(alloc, out, "handler", strand - 256)
 }
 
 /// Puts at the end how a word is touched.

@@ -6,7 +6,7 @@ ghost use Rattle.brd_names.specs.Standings.{standing_text};
 ghost use Rattle.brd_names.specs.Standings.{has_task, runs_in};
 ghost use Rattle.brd_names.specs.Standings.{standings_of};
 
-use crate::text::{put, put_comma, put_named};
+use crate::text::{put, put_called, put_comma, put_named};
 use brd_base::NoMemory;
 use brd_board::{Board, Standing, TaskId};
 use std::alloc::Global;
@@ -116,6 +116,9 @@ fn put_doing(alloc: Global, out: &mut Vec<u8>, standing: Option<Standing>) -> Re
         Some(Standing::Idle) => put(out, " idle"),
         Some(Standing::Stopped) => put(out, " stopped"),
         Some(Standing::Task(id)) => put_named(alloc, out, " runs task", u64::from(id)),
-        Some(Standing::Handler(line)) => put_named(alloc, out, " runs handler", u64::from(line)),
+        Some(Standing::Handler(line)) => {
+            put(out, " runs ")?;
+            put_called(alloc, out, "handler", u16::from(line))
+        }
     }
 }

@@ -34,11 +34,11 @@ pub enum Quiet {
     NoProcessor(u8),
     /// Calls that come again.
     Spins(SpinningTask),
-    /// Ticks that release nobody.
+    /// Ticks that release nobody, and at which no time handler is due.
     Tick,
     /// Ticks after the last one.
     TimeOver,
-    /// Raises of a line that has no handler.
+    /// Raises of a line that has no handler, or is raised by ticks alone.
     NoLine(u8),
     /// Raises of a line that is pending.
     Again(u8),
@@ -131,7 +131,7 @@ impl Stretch {
             Quiet::Spins(spin) => self.put_spins(alloc, out, spin.lock),
             Quiet::Tick => self.put_ticks(alloc, out),
             Quiet::TimeOver => self.put_late(alloc, out),
-            Quiet::NoLine(line) => self.put_raises(alloc, out, line, " has no handler: "),
+            Quiet::NoLine(line) => self.put_raises(alloc, out, line, unraised(line)),
             Quiet::Again(line) => self.put_raises(alloc, out, line, " is pending already: "),
             Quiet::Off => {
                 put(out, "off: ")?;
@@ -195,5 +195,16 @@ impl Stretch {
         put_named(alloc, out, "ticks", first)?;
         put(out, " to ")?;
         put_number(alloc, out, self.tick)
+    }
+}
+
+/// Why a raise of a line finds no handler.
+fn unraised(line: u8) -> &'static str
+    ensures { result.now ≡ quiets.unraised_text line }
+{
+    if line < 32 {
+        " has no handler: "
+    } else {
+        " is raised by ticks alone: "
     }
 }

@@ -5,7 +5,14 @@ ghost use Rattle.std.specs.Fmt.{decimal};
 ghost use Rattle.brd_text.specs.Hex.{hex_of};
 ghost use Rattle.brd_listing.specs.Names.{IsPrintable, shown_name};
 ghost use Rattle.brd_timeline.specs.Ends.{EndsWith};
-ghost use Rattle.brd_names.specs.Lines.{blanks, named_text, count_text, signed_text};
+ghost use Rattle.brd_names.specs.Lines.{
+  blanks,
+  named_text,
+  time_handler_text,
+  called_text,
+  count_text,
+  signed_text,
+};
 
 use brd_base::NoMemory;
 use brd_listing::write_name;
@@ -69,6 +76,28 @@ pub fn put_named(alloc: Global, out: &mut Vec<u8>, name: &str, number: u64) -> R
     put(out, name)?;
     out.push(b' ')?;
     put_number(alloc, out, number)
+}
+
+/// Puts at the end what is called by a word and the number of an interrupt line; from line 32 on by the line's time
+/// handler.
+pub fn put_called(alloc: Global, out: &mut Vec<u8>, word: &str, line: u16) -> Result<(), NoMemory>
+    ensures { OnOk result (out.new.items ≡ out.old.items ++ called_text word.now line) }
+{
+    if line < 32 {
+        return put_named(alloc, out, word, u64::from(line));
+    }
+    put_time_handler(alloc, out, line)
+}
+
+/// Puts at the end what the time handler of a line is called.
+fn put_time_handler(alloc: Global, out: &mut Vec<u8>, line: u16) -> Result<(), NoMemory>
+    requires { 32 ≤ line }
+    ensures { OnOk result (out.new.items ≡ out.old.items ++ time_handler_text line) }
+{
+    if line % 2 == 0 {
+        return put_named(alloc, out, "cyclic handler", u64::from((line - 30) / 2));
+    }
+    put_named(alloc, out, "alarm handler", u64::from((line - 31) / 2))
 }
 
 /// Puts a comma at the end, unless nothing stands there yet.

@@ -5,7 +5,6 @@ ghost use Rattle.brd_objects.specs.QueueOrder.{order_of};
 ghost use Rattle.brd_objects.specs.Waiters.{first_in};
 ghost use Rattle.brd_objects.specs.DataQueues.{
   data_queue_of,
-  has_room,
   sent,
   outcome,
   with_room,

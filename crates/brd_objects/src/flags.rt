@@ -1,16 +1,12 @@
 //! The event flags of a board.
 
-ghost use Rattle.std.specs.Prelude.{◌≡◌, Decides, ◌≢◌, ◌<◌, IfOk, IfSome, option_copied};
-ghost use Rattle.brd_objects.specs.Table.{object_at, object_changed, objects_changed, made_at, made_below};
+ghost use Rattle.std.specs.Prelude.{◌≡◌, ◌≢◌, ◌<◌, IfSome, option_copied};
+ghost use Rattle.brd_objects.specs.Table.{object_at, object_changed};
 ghost use Rattle.brd_objects.specs.Flags.{
-  flag_of,
-  made_flags,
   joined,
   masked,
   taken_for,
   flag_awaited,
-  flag_left,
-  flag_reordered,
   with_next_released,
   next_released_in,
   pattern_for_in,

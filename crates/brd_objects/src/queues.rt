@@ -1,10 +1,8 @@
 //! The data queues of a board.
 
-ghost use Rattle.std.specs.Prelude.{◌≡◌, Decides, ◌<◌, IfOk, IfSome, option_copied};
-ghost use Rattle.brd_objects.specs.Table.{object_at, object_changed, objects_changed, made_at, made_below};
+ghost use Rattle.std.specs.Prelude.{◌≡◌, ◌<◌, IfSome, option_copied};
+ghost use Rattle.brd_objects.specs.Table.{object_at, object_changed};
 ghost use Rattle.brd_objects.specs.DataQueues.{
-  data_queue_of,
-  made_queues,
   sent,
   outcome_in,
   forced,
@@ -15,8 +13,6 @@ ghost use Rattle.brd_objects.specs.DataQueues.{
   IsFromTask,
   awaited_by_sender,
   awaited_by_receiver,
-  data_queue_left,
-  data_queue_reordered,
 };
 
 use crate::data_queue::DataQueue;

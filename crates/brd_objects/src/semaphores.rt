@@ -1,15 +1,11 @@
 //! The semaphores of a board.
 
-ghost use Rattle.std.specs.Prelude.{◌≡◌, Decides, ◌<◌, ◌==◌, IfOk, IfSome, length, find, option_copied};
-ghost use Rattle.brd_objects.specs.Table.{object_at, object_changed, objects_changed, made_at, made_below};
+ghost use Rattle.std.specs.Prelude.{◌≡◌, ◌<◌, IfSome, option_copied};
+ghost use Rattle.brd_objects.specs.Table.{object_at, object_changed};
 ghost use Rattle.brd_objects.specs.Semaphores.{
-  semaphore_of,
-  made_semaphores,
   returned,
   taken,
   semaphore_awaited,
-  semaphore_left,
-  semaphore_reordered,
   first_waiter_in,
   has_one_in,
 };

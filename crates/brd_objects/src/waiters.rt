@@ -2,7 +2,7 @@
 
 ghost use Rattle.std.specs.Prelude.{◌≡◌, ◌≢◌, ◌<◌, [], length, remove, slice_get, Some, false, IfNone, IfOk, IfSome};
 ghost use Rattle.brd_queue.specs.declared.entry.QueueOrder.TheVariants.{Priority};
-ghost use Rattle.brd_queue.specs.Queue.{has, without, entered, placed, reordered, is_empty};
+ghost use Rattle.brd_queue.specs.Queue.{has, without, placed, reordered, is_empty};
 ghost use Rattle.brd_objects.specs.Waiters.{first_in, first_satisfied, without_satisfied, WantBits};
 
 mod saved;

@@ -90,12 +90,12 @@ pub(crate) fn is_answered(what: &What) -> bool {
     }
 }
 
-/// Whether nothing has happened in an event but that time has passed: nothing at all, a tick that releases nobody, or a
-/// call that is to be made again.
+/// Whether nothing has happened in an event but that time has passed: nothing at all, a tick that releases nobody and
+/// at which no time handler is due, or a call that is to be made again.
 pub(crate) fn is_quiet(happening: &Happening) -> bool {
     match happening.what {
         What::Nothing(_) => true,
-        What::Tick(_) => happening.released.is_empty(),
+        What::Tick(_) => happening.released.is_empty() && happening.rung.is_empty(),
         What::Call(call) => matches!(call.answer, Answer::Again),
         _ => false,
     }

@@ -1,5 +1,5 @@
 -- How a board starts whose image has pieces in their places.
-use Rattle.std.proofs.Common.{◌≡◌, ℕ, List, [], ◌∷◌, Result, Ok, Err, refl, ap, sym, subst, ◌∙◌}
+use Rattle.std.proofs.Common.{◌≡◌, ℕ, List, [], ◌∷◌, Result, Ok, Err, refl, ap, sym, ◌∙◌, ◌++◌}
 use Rattle.std.specs.Prelude.{Bool, true, false, if◌then◌else◌}
 use Rattle.brd_text.specs.Faults.{◌>>=◌}
 use Rattle.brd_mem.specs.Memory.{Memory, copied}
@@ -15,7 +15,7 @@ use Rattle.brd_objects.specs.declared.block.PoolSetup.{PoolSetup}
 use Rattle.brd_kernel.specs.declared.processor.LineSetup.{LineSetup}
 use Rattle.brd_board.specs.Board.{BoardState}
 use Rattle.brd_board.specs.Boot.{are_inside, boot, booted_board, booted_kernel, loaded, memory_of}
-use Rattle.brd_board.specs.Setup.{setups_of, handlers_of, pools_of}
+use Rattle.brd_board.specs.Setup.{setups_of, handlers_of, pools_of, cyclics_of, alarms_of}
 use Rattle.brd_board.specs.declared.boot.BootFault.{BootFault}
 use Rattle.brd_board.specs.declared.boot.BootFault.TheVariants.{Outside}
 use Rattle.brd_image.specs.Building.{booted, step}
@@ -37,20 +37,24 @@ abbrev loaded_if : Bool → Memory → Result Memory BootFault
 loaded_if inside memory = if inside then Ok memory else Err Outside
 
 -- what follows the loading of memory
-abbrev from : Configuration → Result (List TaskSetup) BootFault → Result (List LineSetup) BootFault → Result (List PoolSetup) BootFault → Memory →
-    Result BoardState BootFault
-from config setups lines pools memory =
-    setups >>= λ tasks. lines >>= λ handlers. pools >>= λ blocks. Ok (booted_board (booted_kernel tasks handlers blocks config) memory)
+abbrev from : Configuration → Result (List TaskSetup) BootFault → Result (List LineSetup) BootFault → Result (List PoolSetup) BootFault →
+    Result (List LineSetup) BootFault → Result (List LineSetup) BootFault → Memory → Result BoardState BootFault
+from config setups lines pools cyclics alarms memory =
+    setups >>= λ tasks. lines >>= λ handlers. pools >>= λ blocks. cyclics >>= λ cycles. alarms >>= λ times.
+    Ok (booted_board (booted_kernel tasks ((handlers ++ cycles) ++ times) blocks config) memory)
 
 from_with : (config : Configuration) (setups : Result (List TaskSetup) BootFault) (lines : Result (List LineSetup) BootFault)
-    (pools : Result (List PoolSetup) BootFault) (one other : Memory) (start : BoardState) → from config setups lines pools one ≡ Ok start →
-    (start.memory ≡ one) × (from config setups lines pools other ≡ Ok (with_memory start other))
-from_with config (Ok tasks) (Ok handlers) (Ok blocks) one other start gives =
-    let same : start ≡ booted_board (booted_kernel tasks handlers blocks config) one = cc in
+    (pools : Result (List PoolSetup) BootFault) (cyclics alarms : Result (List LineSetup) BootFault) (one other : Memory) (start : BoardState) →
+    from config setups lines pools cyclics alarms one ≡ Ok start →
+    (start.memory ≡ one) × (from config setups lines pools cyclics alarms other ≡ Ok (with_memory start other))
+from_with config (Ok tasks) (Ok handlers) (Ok blocks) (Ok cycles) (Ok times) one other start gives =
+    let same : start ≡ booted_board (booted_kernel tasks ((handlers ++ cycles) ++ times) blocks config) one = cc in
     (ap (λ (it : BoardState). it.memory) same, ap (λ (it : BoardState). done (with_memory it other)) (sym same))
-from_with config (Ok tasks) (Ok handlers) (Err fault) one other start gives = let wrong : ⊥ = cc in absurd wrong
-from_with config (Ok tasks) (Err fault) pools one other start gives = let wrong : ⊥ = cc in absurd wrong
-from_with config (Err fault) lines pools one other start gives = let wrong : ⊥ = cc in absurd wrong
+from_with config (Ok tasks) (Ok handlers) (Ok blocks) (Ok cycles) (Err fault) one other start gives = let wrong : ⊥ = cc in absurd wrong
+from_with config (Ok tasks) (Ok handlers) (Ok blocks) (Err fault) alarms one other start gives = let wrong : ⊥ = cc in absurd wrong
+from_with config (Ok tasks) (Ok handlers) (Err fault) cyclics alarms one other start gives = let wrong : ⊥ = cc in absurd wrong
+from_with config (Ok tasks) (Err fault) pools cyclics alarms one other start gives = let wrong : ⊥ = cc in absurd wrong
+from_with config (Err fault) lines pools cyclics alarms one other start gives = let wrong : ⊥ = cc in absurd wrong
 
 -- one piece
 
@@ -70,14 +74,16 @@ boot_one image config piece start gives = go (are_inside config.ram (with_piece 
     go : (inside : Bool) → are_inside config.ram (with_piece image.segments piece) ≡ inside →
         (loaded_if inside (memory_of image.order config.ram (with_piece image.segments piece)) >>= λ memory.
         from config (setups_of config.ram image.symbols config.tasks) (handlers_of config.ram image.symbols config.handlers)
-        (pools_of config.ram image.symbols config.tasks config.pools) memory) ≡ Ok start →
+        (pools_of config.ram image.symbols config.tasks config.pools) (cyclics_of config.ram image.symbols config.cyclics)
+        (alarms_of config.ram image.symbols config.alarms) memory) ≡ Ok start →
         IsWithOne image config piece start
     go true inside booted_so =
         let both = inside_with config.ram image.segments piece inside in
         let without : Memory = memory_of image.order config.ram image.segments in
         let is_with = memory_with image.order config.ram image.segments piece both.1 in
         let parts = from_with config (setups_of config.ram image.symbols config.tasks) (handlers_of config.ram image.symbols config.handlers)
-        (pools_of config.ram image.symbols config.tasks config.pools) (memory_of image.order config.ram (with_piece image.segments piece)) without start booted_so in
+        (pools_of config.ram image.symbols config.tasks config.pools) (cyclics_of config.ram image.symbols config.cyclics)
+        (alarms_of config.ram image.symbols config.alarms) (memory_of image.order config.ram (with_piece image.segments piece)) without start booted_so in
         (with_memory start without, rw both.0 parts.1, ap (with_memory start) (parts.0 ∙ is_with))
     go false inside booted_so = let wrong : ⊥ = cc in absurd wrong
 

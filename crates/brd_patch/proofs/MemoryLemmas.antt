@@ -1,6 +1,6 @@
 -- Memory at boot, with a piece in its place.
-use Rattle.std.proofs.Common.{◌≡◌, ℕ, ◌+◌, ◌-◌, ◌<◌, ◌≤◌, List, [], ◌∷◌, ◌++◌, length, take, drop, get_or, refl, ap, sym, subst, ◌∙◌, arith, inl, inr, ◌⊎◌, length-append, length-drop}
-use Rattle.std.specs.Prelude.{Bool, true, false, ◌&&◌, nat_le, nat_lt, max, unwrap_or, map, flat_map}
+use Rattle.std.proofs.Common.{◌≡◌, ℕ, ◌+◌, ◌-◌, ◌<◌, ◌≤◌, List, [], ◌∷◌, ◌++◌, length, take, drop, get_or, refl, ap, sym, ◌∙◌, arith, inl, inr, ◌⊎◌, length-append, length-drop}
+use Rattle.std.specs.Prelude.{Bool, true, false, nat_lt, unwrap_or, map, flat_map}
 use Rattle.std.specs.List.{range_with_len}
 use Rattle.std.proofs.lemmas.Bool.{cases_lt}
 use Rattle.std.proofs.lemmas.Bool.Decides.{nat_tests}
@@ -9,7 +9,7 @@ use Rattle.std.proofs.lemmas.List.FromFn.{fill_by_all, get_or-map-range_with_len
 use Rattle.std.proofs.lemmas.Option.{unwrap_or-slice_get}
 use Rattle.brd_base.specs.Space.{base}
 use Rattle.brd_word.specs.declared.order.Order.{Order}
-use Rattle.brd_mem.specs.Memory.{Memory, memory_of_bytes, contains, copied}
+use Rattle.brd_mem.specs.Memory.{memory_of_bytes, contains, copied}
 use Rattle.brd_mem.specs.Image.{byte_in}
 use Rattle.brd_mem.specs.declared.image.Segment.{Segment}
 use Rattle.brd_board.specs.Boot.{are_inside, memory_of}

@@ -1,6 +1,5 @@
 -- Places that are kept whole stay so.
-use Rattle.std.proofs.Common.{◌≡◌, ℕ, ◌<◌, List, [], ◌∷◌, ◌++◌, length, sym, ap, ◌∙◌, arith, length-append}
-use Rattle.std.specs.Prelude.{All}
+use Rattle.std.proofs.Common.{◌≡◌, ℕ, List, [], ◌∷◌, ◌++◌, sym, ap, ◌∙◌, arith, length-append}
 use Rattle.brd_mem.specs.Memory.{size_of}
 use Rattle.brd_board.specs.declared.event.Event.{Event}
 use Rattle.brd_board.specs.Board.{BoardState, after}
@@ -8,7 +7,7 @@ use Rattle.brd_board.specs.Snapshot.{SnapshotState}
 use Rattle.brd_board.proofs.FormLemmas.{size-after, order-after}
 use Rattle.brd_places.specs.declared.entry.Entry.{Entry}
 use Rattle.brd_places.specs.declared.kept.Kept.{Kept}
-use Rattle.brd_places.specs.Places.{Place, board_at, places_of, places_after, AreAlike, AreKept, BeginsWith, IsSnapshotAt}
+use Rattle.brd_places.specs.Places.{AreAlike, AreKept, BeginsWith, IsSnapshotAt}
 use Rattle.brd_places.proofs.PlaceLemmas.{board-more}
 
 snapshot-more : (start : BoardState) (entries : List Entry) (entry : Entry) (i : ℕ) (s : SnapshotState) → IsSnapshotAt start entries i s →

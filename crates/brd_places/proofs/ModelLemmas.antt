@@ -1,6 +1,6 @@
 -- What the fields of places say of the list that they are.
-use Rattle.std.proofs.Common.{◌≡◌, ℕ, List, [], ◌∷◌, ◌++◌, length, refl, sym, ap, subst, ◌∙◌, arith}
-use Rattle.std.specs.Prelude.{slice_get, Some, Bool, true, Decides}
+use Rattle.std.proofs.Common.{◌≡◌, ℕ, List, [], ◌∷◌, ◌++◌, refl, sym, ap, subst, ◌∙◌, arith}
+use Rattle.std.specs.Prelude.{slice_get, Some, Bool, true, Decides, IfOk, Result, Ok, Err}
 use Rattle.brd_mem.specs.Memory.{size_of}
 use Rattle.brd_board.specs.declared.event.Event.{Event}
 use Rattle.brd_board.specs.Board.{BoardState, after}
@@ -17,13 +17,23 @@ pub place_board : (start board : BoardState) (entries : List Entry) (places : Li
 place_board start board entries places i place view is made =
     made ∙ board-got start (places_of start entries) i place (subst (λ (ps : List Place). slice_get ps i ≡ Some place) (sym view) is)
 
-pub there_same : (start spare board : BoardState) (entries : List Entry) (places : List Place) (i : ℕ) (entry : Entry) (left : Left) (same : Bool) →
-    places_of start entries ≡ places → Some entry ≡ slice_get entries i → entry.left ≡ left →
-    spare ≡ board_at start (places_of start entries) i → Decides same (spare ≡ board) → same ≡ true →
-    slice_get places i ≡ Some (record { left = left; board = board })
-there_same start spare board entries places i entry left same view has lefts made decides is =
-    subst (λ (ps : List Place). slice_get ps i ≡ Some (record { left = left; board = board })) view
-    (is-there start entries i entry left board (sym has) lefts (sym made ∙ decides.0 is))
+pub there_same : {E : Type 0} (start board : BoardState) (entries : List Entry) (places : List Place) (i : ℕ) (entry : Entry) (left : Left)
+    (found : Result Bool E) → places_of start entries ≡ places → Some entry ≡ slice_get entries i → entry.left ≡ left →
+    ((place : Place) → slice_get places i ≡ Some place → IfOk found (λ is. is ≡ true → place.board ≡ board)) →
+    IfOk found (λ is. is ≡ true → slice_get places i ≡ Some (record { left = left; board = board }))
+there_same start board entries places i entry left (Err fault) view has lefts same = tt
+there_same start board entries places i entry left (Ok is) view has lefts same = λ yes.
+    let b : BoardState = board_at start (places_of start entries) i in
+    let there : slice_get places i ≡ Some (record { left = left; board = b }) =
+    subst (λ (ps : List Place). slice_get ps i ≡ Some (record { left = left; board = b })) view
+    (is-there start entries i entry left b (sym has) lefts refl) in
+    there ∙ ap (λ (c : BoardState). Some (record { left = left; board = c })) (same (record { left = left; board = b }) there yes)
+
+pub board_same : (start spare board : BoardState) (entries : List Entry) (places : List Place) (i : ℕ) (place : Place) (same : Bool) →
+    places_of start entries ≡ places → slice_get places i ≡ Some place → spare ≡ board_at start (places_of start entries) i →
+    Decides same (spare ≡ board) → same ≡ true → place.board ≡ board
+board_same start spare board entries places i place same view there made decides is =
+    sym (place_board start spare entries places i place view there made) ∙ decides.0 is
 
 pub one_more : (start : BoardState) (entries new : List Entry) (places : List Place) (from parent count since kept : ℕ) (event : Event)
     (left : Left) (place : Place) → places_of start entries ≡ places → parent ≡ from →

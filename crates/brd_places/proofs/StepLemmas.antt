@@ -1,10 +1,9 @@
 -- What a board becomes that is made that of a place.
 use Rattle.std.proofs.Common.{◌≡◌, ℕ, zero, suc, ◌<◌, ◌≤◌, List, [], ◌∷◌, length, sym, ap, ◌∙◌, arith}
-use Rattle.std.proofs.Common.{◌+◌, ◌-◌, ◌++◌, take, refl, subst, length-append}
-use Rattle.std.specs.Prelude.{slice_get, Some, None, replicate, All}
+use Rattle.std.proofs.Common.{◌-◌, ◌++◌, take, refl, subst, length-append}
+use Rattle.std.specs.Prelude.{slice_get, Some, None, replicate}
 use Rattle.std.proofs.lemmas.List.{take_at}
 use Rattle.std.proofs.lemmas.List.Elements.{All-push}
-use Rattle.brd_mem.specs.Memory.{size_of}
 use Rattle.brd_board.specs.declared.event.Event.{Event}
 use Rattle.brd_board.specs.Board.{BoardState, after}
 use Rattle.brd_board.specs.Snapshot.{SnapshotState, restored, Fits}

@@ -19,7 +19,7 @@ pub(crate) struct Entry {
     pub count: u32,
     /// What is left.
     pub left: Left,
-    /// How many places lie on the way to it from the last one that is kept whole; 0 if it is kept so itself.
+    /// How long the way is to it from the last one that is kept whole; 0 if it is kept so itself.
     pub since: u8,
     /// Where it stands among those that are kept whole, if it is one of them.
     pub kept: u32,

@@ -11,8 +11,11 @@ use crate::entry::{Entry, NONE, entry_at};
 use brd_base::NoMemory;
 use brd_board::{Board, Snapshot};
 
-/// How many places come one from another, at most, from one that is kept whole up to the next (own choice).
+/// How long the way is, at most, from one place that is kept whole up to the next (own choice).
 pub(crate) const MOST_APART: u8 = 64;
+
+/// How many events on such a way count as much as a place (own choice).
+const EVENTS: u32 = 16;
 
 /// A place that is kept whole.
 #[derive(Drop)]
@@ -132,13 +135,14 @@ pub(crate) fn put(
     Ok(())
 }
 
-/// How many places lie on the way from the last one that is kept whole to one that comes from this place. Where they
-/// would be too many it is to be kept whole itself.
-pub(crate) fn since_after(entries: &[Entry], from: usize) -> u8 {
+/// How long the way is from the last place that is kept whole to one that comes from this place by so many events. Where
+/// it would be too long it is to be kept whole itself.
+pub(crate) fn since_after(entries: &[Entry], from: usize, count: u32) -> u8 {
     let Some(entry) = entry_at(entries, from) else {
         return 0;
     };
-    let since = entry.since.saturating_add(1);
+    let more = u8::try_from(count / EVENTS).unwrap_or(u8::MAX);
+    let since = entry.since.saturating_add(1).saturating_add(more);
     if since < MOST_APART { since } else { 0 }
 }
 

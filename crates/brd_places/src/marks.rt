@@ -129,7 +129,7 @@ fn marked_by_handler(mark: u64, board: &Board, cpu: u8, line: u8) -> u64 {
 /// A mark, and the lines that are pending.
 fn marked_by_lines(mark: u64, board: &Board) -> u64 {
     let mut mark = mark;
-    for line in 0..32u8 {
+    for line in 0..160u8 {
         if board.is_pending(line) {
             mark = marked(mark, u64::from(line));
         }

@@ -142,7 +142,6 @@ impl Places {
     }
 
     /// Whether the place of an index is this board, where just so much is left.
-    #[tactic(auto, using(crate::proofs::StepLemmas::alike_place, crate::proofs::ModelLemmas::there_same))]
     fn is_at(&mut self, i: usize, board: &Board, left: Left) -> Result<bool, NoMemory>
         ensures same { self.new ≡ self.old }
         ensures is { IfOk result (λ is. is ≡ true →
@@ -154,6 +153,26 @@ impl Places {
         if entry.left != left {
             return Ok(false);
         }
+        self.has_board(i, board)
+    }
+
+    /// The last place that was added with this mark, if there is one.
+    pub fn first(&self, mark: u64) -> Option<usize> {
+        self.table.first(mark)
+    }
+
+    /// The place that was added last, before another one, with this mark, if there is one.
+    pub fn next(&self, i: usize, mark: u64) -> Option<usize> {
+        self.table.next(i, mark)
+    }
+
+    /// Whether the place of an index is this board, whatever is left there.
+    #[tactic(auto, using(crate::proofs::StepLemmas::alike_place, crate::proofs::ModelLemmas::board_same))]
+    pub fn has_board(&mut self, i: usize, board: &Board) -> Result<bool, NoMemory>
+        ensures same { self.new ≡ self.old }
+        ensures is { (place : Place) → slice_get self.old i ≡ Some place →
+            IfOk result (λ is. is ≡ true → place.board ≡ board.now) }
+    {
         put_back(
             &self.start,
             self.entries.as_slice(),
@@ -183,7 +202,7 @@ impl Places {
             return Err(NoMemory);
         };
         self.table.make_room()?;
-        let since = since_after(self.entries.as_slice(), from);
+        let since = since_after(self.entries.as_slice(), from, count);
         let entry = Entry {
             parent,
             event,

@@ -25,7 +25,7 @@ pub struct Options {
     /// Whether lines are shown yet.
     pub shown: bool,
     /// The processor that handles each interrupt line; 0 where none does.
-    pub lines: [u8; 32],
+    pub lines: [u8; 160],
 }
 
 /// How the lines are made.

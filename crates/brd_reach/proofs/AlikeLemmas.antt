@@ -16,7 +16,7 @@ use Rattle.brd_tasks.specs.declared.task.Task.{Task}
 use Rattle.brd_tasks.specs.Tasks.{no_context, shown, task_at, context_at, with_context}
 use Rattle.brd_kernel.specs.declared.processor.Processor.{Processor}
 use Rattle.brd_kernel.specs.declared.processor.Executor.{Executor}
-use Rattle.brd_kernel.specs.Kernel.{KernelState, processor_at, executor_on, context_of, context_on, deliverable}
+use Rattle.brd_kernel.specs.Kernel.{KernelState, processor_at, executor_on, context_of, context_on, deliverable, timer_due}
 use Rattle.brd_time.specs.Time.{due_of}
 use Rattle.brd_kernel.specs.Waits.{shown_until, seen_at}
 use Rattle.brd_board.specs.Executing.{executed_by, executed_in}
@@ -32,7 +32,7 @@ use Rattle.brd_explore.specs.declared.wanted.Failure.{Failure}
 use Rattle.brd_explore.specs.declared.wanted.Failure.TheVariants as failure
 use Rattle.brd_explore.specs.declared.wanted.Wanted.{Wanted}
 use Rattle.brd_explore.specs.Schedules.{does}
-use Rattle.brd_explore.specs.Failures.{some_below, nobody_goes, waits, has_due, some_are_due, is_stuck, word_in, word_of, is_value, is_between, begins_with, is_at, fails_by_now, fails_at_last, fails_now, lacks, is_at_rest, is_end, is_cut, fails_fairly, goes_fairly, fails_at}
+use Rattle.brd_explore.specs.Failures.{some_below, nobody_goes, waits, has_due, is_due, some_are_due, is_stuck, word_in, word_of, is_value, is_between, begins_with, is_at, fails_by_now, fails_at_last, fails_now, lacks, is_at_rest, is_end, is_cut, fails_fairly, goes_fairly, fails_at}
 use Rattle.brd_frames.specs.Agents as agents
 use Rattle.brd_frames.specs.Agents.{Agent, agent_by, context_in, with_context_in}
 use Rattle.brd_frames.specs.Touching.{stores, changed, put_at}
@@ -121,6 +121,12 @@ due-put k (agents.Task at) s id =
     due-shown (due_of k.time id) (context_at (with_context k.tasks at s) id) (context_at k.tasks id) (task_at k.tasks id)
 due-put k (agents.Handler at) s id = refl
 
+-- So is whether a time handler is due.
+
+handler-due-put : (k : KernelState) (who : Agent) (s : State) (place : ℕ) → timer_due (with_context_in k who s) place ≡ timer_due k place
+handler-due-put k (agents.Task at) s place = refl
+handler-due-put k (agents.Handler at) s place = refl
+
 off-put : (k : KernelState) (who : Agent) (s : State) → (with_context_in k who s).off ≡ k.off
 off-put k (agents.Task at) s = refl
 off-put k (agents.Handler at) s = refl
@@ -206,6 +212,7 @@ pub record Alike (by : Sharing) (b c : BoardState) : Type 0 where
   pub goes : (cpu : ℕ) → does c (Step cpu) ≡ does b (Step cpu)
   pub waiting : (id : ℕ) → waits (task_of c id) ≡ waits (task_of b id)
   pub due : (id : ℕ) → has_due (task_of c id) ≡ has_due (task_of b id)
+  pub handlers : (place : ℕ) → is_due c place ≡ is_due b place
   pub order : c.memory.order ≡ b.memory.order
   pub bytes : (address : ℕ) → by.shared address ≡ true → byte_at c.memory address ≡ byte_at b.memory address
   pub stands : (cpu address : ℕ) → by.seen address ≡ true → is_at address (registers_of c cpu) ≡ true →
@@ -219,6 +226,7 @@ alike-own by b = record {
   goes = λ cpu. refl;
   waiting = λ id. refl;
   due = λ id. refl;
+  handlers = λ place. refl;
   order = refl;
   bytes = λ address shared. refl;
   stands = λ cpu address seen at. at;
@@ -232,6 +240,7 @@ alike-more by a b c one two = record {
   goes = λ cpu. two.goes cpu ∙ one.goes cpu;
   waiting = λ id. two.waiting id ∙ one.waiting id;
   due = λ id. two.due id ∙ one.due id;
+  handlers = λ place. two.handlers place ∙ one.handlers place;
   order = two.order ∙ one.order;
   bytes = λ address shared. two.bytes address shared ∙ one.bytes address shared;
   stands = λ cpu address seen at. one.stands cpu address seen (two.stands cpu address seen at);
@@ -260,6 +269,9 @@ alike-step by b new who it =
           does-is new cpu ∙ ap (λ k. goes_on k cpu) kernel ∙ goes-put b.kernel who led.gone.context cpu ∙ sym (does-is b cpu);
       waiting = λ id. ap (λ k. waits (seen_at k id)) kernel ∙ waits-put b.kernel who led.gone.context id;
       due = λ id. ap (λ k. has_due (seen_at k id)) kernel ∙ due-put b.kernel who led.gone.context id;
+      handlers = λ place.
+          ap (λ (k : KernelState). is_some (timer_due k place)) kernel
+          ∙ ap (λ (due : Option ℕ). is_some due) (handler-due-put b.kernel who led.gone.context place);
       order = ap (λ (x : BoardState). x.memory.order) led.is;
       bytes = λ address shared.
           ap (λ (x : BoardState). byte_at x.memory address) led.is
@@ -281,7 +293,7 @@ nobody-alike : (by : Sharing) (b c : BoardState) → Alike by b c → nobody_goe
 nobody-alike by b c it = λ i. not (some_below 9 (λ cpu. it.goes cpu i))
 
 due-alike : (by : Sharing) (b c : BoardState) → Alike by b c → some_are_due c ≡ some_are_due b
-due-alike by b c it = λ i. some_below 256 (λ id. it.due id i)
+due-alike by b c it = λ i. some_below 256 (λ id. it.due id i) || some_below 128 (λ place. it.handlers place i)
 
 stuck-alike : (by : Sharing) (b c : BoardState) → Alike by b c → is_stuck c ≡ is_stuck b
 stuck-alike by b c it = λ i.

@@ -11,7 +11,7 @@ mod held;
 pub mod laws;
 mod round;
 mod searching;
-mod step;
+pub mod step;
 mod stop;
 mod unknown;
 mod visit;
@@ -19,5 +19,6 @@ mod ways;
 
 pub use endless::{never_ends, rest_of, show_all};
 pub use held::{Final, Held};
-pub use searching::{Reached, reach};
+pub use searching::{Reached, guarded, learn, owned_words, ram_len, reach};
 pub use unknown::Unknown;
+pub use visit::memory_of;

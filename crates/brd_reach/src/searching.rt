@@ -81,7 +81,7 @@ const PAGE: u32 = 4_096;
 const PAGES: u32 = 4_096;
 
 /// How many bytes of RAM a board has, in whole pages.
-fn ram_len(board: &Board) -> u32 {
+pub fn ram_len(board: &Board) -> u32 {
     for page in 0..PAGES {
         if board.memory(BASE + page * PAGE).is_none() {
             return page * PAGE;
@@ -91,7 +91,7 @@ fn ram_len(board: &Board) -> u32 {
 }
 
 /// Who may touch which word of a RAM of this size: all what failures watch, and nobody's else.
-fn guarded(alloc: Global, size: u32, wanted: &Wanted) -> Result<Sharing, NoMemory>
+pub fn guarded(alloc: Global, size: u32, wanted: &Wanted) -> Result<Sharing, NoMemory>
     ensures { IfOk result (λ sharing. AreGuarded (sharing_of sharing) wanted.now.failures) }
 {
     let mut sharing = Sharing::new(alloc, size)?;
@@ -157,7 +157,7 @@ fn guard_word(sharing: &mut Sharing, address: u32)
 }
 
 /// The addresses of the words that somebody may store to, or did.
-fn owned_words(alloc: Global, sharing: &Sharing, size: u32) -> Result<Vec<u32>, NoMemory> {
+pub fn owned_words(alloc: Global, sharing: &Sharing, size: u32) -> Result<Vec<u32>, NoMemory> {
     let mut words = Vec::new(alloc);
     for at in 0..size / 4 {
         let address = BASE.wrapping_add(at.wrapping_mul(4));
@@ -175,7 +175,7 @@ const TURNS: u32 = 256;
 const TURN: u32 = 16;
 
 /// Learns who touches which words and who is mortal from a place on: first at the step of a processor after so many.
-fn learn(sharing: &mut Sharing, board: Board, cpu: u8, count: u32, among: &[Event])
+pub fn learn(sharing: &mut Sharing, board: Board, cpu: u8, count: u32, among: &[Event])
     ensures { StayShared sharing.old sharing.new }
 {
     let mut board = board;

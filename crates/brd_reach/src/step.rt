@@ -14,7 +14,7 @@ use brd_explore::{Failure, Wanted};
 
 /// Lets a processor do its next step, and answers what that was. An instruction counts as one that others may see if it
 /// comes to one that failures watch.
-pub(crate) fn step(sharing: &Sharing, wanted: &Wanted, board: &mut Board, cpu: u8) -> Stepped
+pub fn step(sharing: &Sharing, wanted: &Wanted, board: &mut Board, cpu: u8) -> Stepped
     ensures board { board.new ≡ (happens board.old (Step cpu)).board }
     ensures is { IsLinkSet board.old.links →
         IsStepped (sharing_for sharing.now wanted.now) board.old cpu result }

@@ -13,7 +13,7 @@ pub(crate) enum Stop {
     No,
     /// It is an end.
     End,
-    /// No tick is left for a wait that would end by one.
+    /// No tick is left for a wait that would end by one, or for a time handler.
     Cut,
 }
 

@@ -218,7 +218,7 @@ fn note(
 }
 
 /// A number for the memory of a board, by the words at some addresses.
-fn memory_of(board: &Board, words: &[u32]) -> u64 {
+pub fn memory_of(board: &Board, words: &[u32]) -> u64 {
     let mut number = 0;
     for address in words {
         if let Some(word) = board.aligned_word(*address) {

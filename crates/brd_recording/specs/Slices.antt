@@ -14,7 +14,7 @@ use Rattle.brd_timeline.specs.declared.timeline.Kind.{Kind}
 use Rattle.brd_timeline.specs.declared.timeline.Slice.{Slice}
 use Rattle.brd_timeline.specs.declared.timeline.Timeline.{Timeline}
 use Rattle.brd_recording.specs.declared.recording.Doing.{Doing}
-use Rattle.brd_names.specs.Lines.{named_text}
+use Rattle.brd_names.specs.Lines.{named_text, called_text}
 use Rattle.brd_recording.specs.Lanes.{Title, titled, titles_of}
 use Rattle.brd_names.specs.Standings.{tasks_of, standings_of, runs_in}
 use Rattle.brd_seen.specs.Conditions.{Condition, condition_of}
@@ -94,7 +94,7 @@ subjects_of board = subjects_by (cpus_in (standings_of board)) (tasks_of board)
 -- what a slice is called: of a task that waits what for; else whose the processor is; else nothing
 abbrev pub owner_text : Kind → ℕ → List ℕ
 owner_text Kind.Task number = named_text (codes "task") number
-owner_text Kind.Handler number = named_text (codes "handler") number
+owner_text Kind.Handler number = called_text (codes "handler") number
 owner_text _ number = []
 
 abbrev pub label_by : Doing → Option WaitReason → List ℕ

@@ -57,7 +57,7 @@ use brd_base::NoMemory;
 use brd_board::{Board, Standing, TaskState, WaitReason};
 use brd_happening::Happening;
 use brd_journal::Journal;
-use brd_names::{Quiet, SpinningTask, Standings, put_named, put_wait};
+use brd_names::{Quiet, SpinningTask, Standings, put_called, put_named, put_wait};
 use brd_seen::{TaskSeen, quiet_of};
 use brd_timeline::{Group, Kind, Lane, Mark, MarkKind, Slice, Timeline};
 use std::alloc::Global;
@@ -522,7 +522,7 @@ fn label_of(alloc: Global, doing: Doing) -> Result<Vec<u8>, NoMemory>
     }
     match doing.kind {
         Kind::Task => put_named(alloc, &mut label, "task", u64::from(doing.number))?,
-        Kind::Handler => put_named(alloc, &mut label, "handler", u64::from(doing.number))?,
+        Kind::Handler => put_called(alloc, &mut label, "handler", doing.number)?,
         _ => (),
     }
     Ok(label)

@@ -1,10 +1,9 @@
 //! The command `race`.
 
-ghost use Rattle.std.specs.Prelude.{◌≡◌, ◌≤◌, length, IfOk, IfSome, MatchResult, replicate};
+ghost use Rattle.std.specs.Prelude.{◌≡◌, ◌≤◌, length, IfOk, IfSome, MatchResult};
 ghost use Rattle.brd_journal.specs.Journal.{most_runs};
 ghost use Rattle.brd_journal.specs.Runs.{runs_of};
 ghost use Rattle.brd_ledgers.specs.Blanks.{AreOf};
-ghost use Rattle.brd_threads.specs.Processors.{processors_of};
 ghost use Rattle.brd_running.specs.Files.{RaceFilesEnd};
 ghost use Rattle.brd_running.specs.RaceCommand.{IsShown, KeepsFromRacing, RaceEnds, ShowsStation, unkept};
 

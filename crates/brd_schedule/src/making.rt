@@ -1,6 +1,6 @@
 //! Journals of plans.
 
-ghost use Rattle.std.specs.Prelude.{◌≡◌, ◌+◌, ◌≤◌, ◌<◌, ◌^◌, IfErr, IfOk};
+ghost use Rattle.std.specs.Prelude.{◌≡◌, ◌+◌, ◌≤◌, ◌<◌, IfErr, IfOk};
 ghost use Rattle.brd_schedule.specs.Schedule.{EndsMaking, IsMade, event_of, fixed, made, raised, steps_on};
 ghost use Rattle.brd_schedule.specs.Steps.{IsBefore};
 

@@ -1,6 +1,6 @@
 //! What the console should have, as an option says it.
 
-ghost use Rattle.std.specs.Prelude.{◌≡◌, ◌≤◌, ◌∷◌, length, IfSome, MatchOption, MatchResult};
+ghost use Rattle.std.specs.Prelude.{◌≤◌, ◌∷◌, length, IfSome, MatchOption, MatchResult};
 ghost use Rattle.brd_search.specs.Escapes.{Gives, GivesNone, HasBytes, bytes_of};
 ghost use Rattle.brd_search.specs.Escapes.Within.{no_escape, backslash, hex};
 ghost use Rattle.brd_search.specs.Plans.{IsOfConsole};

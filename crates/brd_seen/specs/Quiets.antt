@@ -6,6 +6,7 @@ use Rattle.brd_happening.specs.declared.happening.{What.What, Why.Why, Happening
 use Rattle.brd_happening.specs.declared.happening.What.TheVariants as what
 use Rattle.brd_happening.specs.declared.happening.Why.TheVariants as why
 use Rattle.brd_happening.specs.declared.release.Release.{Release}
+use Rattle.brd_happening.specs.declared.rung.Rung.{Rung}
 use Rattle.brd_names.specs.declared.stretch.{Quiet.Quiet}
 use Rattle.brd_names.specs.declared.stretch.Quiet.TheVariants.{Idle, Stopped, NoProcessor, Spins, Tick, TimeOver}
 use Rattle.brd_names.specs.declared.stretch.Quiet.TheVariants.{NoLine, Again, Off}
@@ -34,15 +35,16 @@ spin_by it call answer who = None
 abbrev pub spin_of : Happening → CallMade → Option Quiet
 spin_of it call = spin_by it call call.answer it.who
 
--- a tick that releases nobody
-abbrev pub tick_by : List Release → Option Quiet
-tick_by [] = Some Tick
-tick_by (release ∷ releases) = None
+-- a tick that releases nobody, and at which no time handler is due
+abbrev pub tick_by : List Release → List Rung → Option Quiet
+tick_by [] [] = Some Tick
+tick_by [] (one ∷ rung) = None
+tick_by (release ∷ releases) rung = None
 
 abbrev pub quiet_what : Happening → What → Option Quiet
 quiet_what it (what.Nothing why) = Some (quiet_by why (unwrap_or it.cpu 0))
 quiet_what it (what.Lost line) = Some (Again line)
-quiet_what it (what.Tick number) = tick_by it.released
+quiet_what it (what.Tick number) = tick_by it.released it.rung
 quiet_what it (what.Call call) = spin_of it call
 quiet_what it _ = None
 

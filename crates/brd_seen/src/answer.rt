@@ -4,6 +4,7 @@ use crate::service::{SaidCall, Shown, put_value};
 use brd_base::NoMemory;
 use brd_happening::Release;
 use brd_names::{put, put_signed};
+use brd_sysgate::service;
 use std::alloc::Global;
 
 /// The name of an answer that is no count (uITRON 4.0 specification, "Main Error Codes").
@@ -25,7 +26,7 @@ pub fn error_name(code: u32) -> Option<&'static str> {
 }
 
 /// Where a call of this number may not come from, and which one to make there, where that is said of E_CTX.
-pub fn context_advice(number: u32) -> Option<&'static str> {
+fn context_advice(number: u32) -> Option<&'static str> {
     let advice = match number {
         1 => "not from a handler, which calls iact_tsk, nor with the CPU locked",
         7 => "not from a handler, which calls imact_tsk, nor with the CPU locked",
@@ -36,6 +37,8 @@ pub fn context_advice(number: u32) -> Option<&'static str> {
         24 => "not from a handler, which calls isig_sem, nor with the CPU locked",
         28 => "not from a handler, which calls iset_flg, nor with the CPU locked",
         86 => "not from a handler, which calls isnd_mbx, nor with the CPU locked",
+        95 => "not from a handler, which calls ista_alm, nor with the CPU locked",
+        97 => "not from a handler, which calls istp_alm, nor with the CPU locked",
         34 => "not from a handler, which calls ipsnd_dtq, nor with the CPU locked",
         36 => "not from a handler, which calls ifsnd_dtq, nor with the CPU locked",
         3 => "not from a handler, which ends by ret_int",
@@ -58,6 +61,9 @@ pub fn context_advice(number: u32) -> Option<&'static str> {
         | 40
         | 60
         | 61
+        | 64
+        | 65
+        | 70..=76
         | 78
         | 80
         | 81
@@ -65,7 +71,11 @@ pub fn context_advice(number: u32) -> Option<&'static str> {
         | 85
         | 89
         | 91
-        | 92 => { "not from a handler, nor with the CPU locked" }
+        | 92
+        | 93
+        | 94
+        | 99
+        | 100 => { "not from a handler, nor with the CPU locked" }
         15 => "not from a handler, nor with a spin lock held",
         14 | 41 | 62 => "not from a handler",
         48 => "from a handler alone: a task calls act_tsk",
@@ -80,9 +90,36 @@ pub fn context_advice(number: u32) -> Option<&'static str> {
         57 => "from a handler alone: a task calls mact_tsk",
         58 => "from a handler alone: a task ends by ext_tsk",
         87 => "from a handler alone: a task calls snd_mbx",
+        96 => "from a handler alone: a task calls sta_alm",
+        98 => "from a handler alone: a task calls stp_alm",
+        112 => "from a handler alone: a task calls get_pid",
         _ => return None,
     };
     Some(advice)
+}
+
+/// The number of `isig_tim` of other kernels: an answer of E_RSFN here.
+const ISIG_TIM: u32 = 115;
+
+/// Why there is no call of this number, where that is said of E_RSFN.
+fn missing_advice(number: u32) -> Option<&'static str> {
+    if number == ISIG_TIM {
+        return Some("isig_tim isn't needed: ticks are events of the journal");
+    }
+    if service(number, [0; 4]).is_none() {
+        return None;
+    }
+    Some("the configuration has no PROFILE(STANDARD)")
+}
+
+/// What is said of a call of this number that was refused with this answer: where it may not come from, and which one
+/// to make there, or why there is none.
+pub fn refusal_advice(code: u32, number: u32) -> Option<&'static str> {
+    match error_name(code) {
+        Some("E_CTX") => context_advice(number),
+        Some("E_RSFN") => missing_advice(number),
+        _ => None,
+    }
 }
 
 /// A call that was answered.

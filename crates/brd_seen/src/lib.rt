@@ -7,7 +7,7 @@ mod quiet;
 mod service;
 mod tasks;
 
-pub use answer::{Answered, context_advice, error_name};
+pub use answer::{Answered, error_name, refusal_advice};
 pub use quiet::{quiet_of, tick_of};
 pub use service::{EXT_KER, EXT_TSK, RET_INT, SaidCall, Shown, TER_TSK, put_value};
 pub use tasks::{Cause, TaskSeen, follow_tasks, task_seen, tasks_seen};

@@ -4,7 +4,7 @@ ghost use Rattle.std.specs.Prelude.{◌≡◌};
 ghost use Rattle.brd_seen.specs.Quiets as quiets;
 
 use brd_board::Standing;
-use brd_happening::{Answer, CallMade, Happening, What, Why};
+use brd_happening::{Answer, CallMade, Happening, Release, Rung, What, Why};
 use brd_names::{Quiet, SpinningTask};
 
 /// The events that a happening is one of, if it changes nothing.
@@ -14,7 +14,7 @@ pub fn quiet_of(it: &Happening) -> Option<Quiet>
     match it.what {
         What::Nothing(why) => Some(quiet_by(why, it.cpu.unwrap_or(0))),
         What::Lost(line) => Some(Quiet::Again(line)),
-        What::Tick(_) if it.released.as_slice().is_empty() => Some(Quiet::Tick),
+        What::Tick(_) => tick_by(it.released.as_slice(), it.rung.as_slice()),
         What::Call(call) => spin_of(it, &call),
         _ => None,
     }
@@ -32,6 +32,16 @@ fn quiet_by(why: Why, cpu: u8) -> Quiet
         Why::Idle => Quiet::Idle(cpu),
         Why::TimeOver => Quiet::TimeOver,
     }
+}
+
+/// Ticks, if one is one of them that releases these tasks and raises these lines.
+fn tick_by(released: &[Release], rung: &[Rung]) -> Option<Quiet>
+    ensures { result ≡ quiets.tick_by released.now rung.now }
+{
+    if released.is_empty() && rung.is_empty() {
+        return Some(Quiet::Tick);
+    }
+    None
 }
 
 /// The calls that come again, if a task's call is one of them.

@@ -135,7 +135,9 @@ fn second_of(call: Call) -> Shown {
         | Call::RefSem(..)
         | Call::RefDtq(..)
         | Call::RefMtx(..)
-        | Call::RefMpf(..) => Shown::Number,
+        | Call::RefMpf(..)
+        | Call::RefCyc(..)
+        | Call::RefAlm(..) => Shown::Number,
         Call::TwaiFlg(..)
         | Call::TrcvDtq(..)
         | Call::RefFlg(..)

@@ -1,7 +1,7 @@
 //! Turns that are moved elsewhere in a list of events that fails.
 
 ghost use Rattle.std.specs.Prelude.{◌≡◌, ◌≤◌, ◌<◌, ℕ, true, length, IfOk, IfSome, IfNone};
-ghost use Rattle.brd_shrink.specs.Turns.{is_cut, IsTurn, swapped};
+ghost use Rattle.brd_shrink.specs.Turns.{is_cut, swapped};
 ghost use Rattle.brd_shrink.specs.Settled.{IsPassing, IsBetter, IsSettledAt};
 
 use crate::turns::{is_cut, switches, turn_end};

@@ -1,8 +1,8 @@
 -- The stacks of tasks and handlers, one more.
-use Rattle.std.proofs.Common.{◌≡◌, ℕ, ◌+◌, ◌<◌, List, [], ◌∷◌, ◌++◌, length, drop, refl, sym, ap, ◌∙◌, append_assoc}
+use Rattle.std.proofs.Common.{◌≡◌, ℕ, suc, ◌+◌, ◌-◌, ◌<◌, ◌≤◌, List, [], ◌∷◌, ◌++◌, length, drop, refl, sym, ap, ◌∙◌, append_assoc, arith}
 use Rattle.std.specs.Prelude.{Option, Some, None, slice_index_or}
-use Rattle.std.specs.List.{cons_option}
-use Rattle.std.proofs.lemmas.List.{drop_more}
+use Rattle.std.specs.List.{cons_option, filter_map, range_with_len}
+use Rattle.std.proofs.lemmas.List.{append-nil, drop_more}
 use Rattle.brd_mem.specs.declared.image.Symbol.{Symbol}
 use Rattle.brd_config.specs.declared.objects.TaskConfig.{TaskConfig}
 use Rattle.brd_config.specs.declared.objects.HandlerConfig.{HandlerConfig}
@@ -36,3 +36,22 @@ handlers-on symbols handlers i handler all old new lt is put so_far =
     ∙ ap (λ h. old ++ handler_stacks symbols (h ∷ drop (i + 1) handlers)) (sym is)
     ∙ put-on old (handler_stacks symbols (drop (i + 1) handlers)) (handler_stack symbols handler.line)
     ∙ ap (λ l. l ++ handler_stacks symbols (drop (i + 1) handlers)) (sym put)
+
+-- lines of time handlers
+
+-- with what is found of the next line behind what was found so far, the lines that are left are one fewer
+pub next-line : (h : ℕ → Option Stack) (so_far more whole : List Stack) (i end : ℕ) → i < end →
+    more ≡ so_far ++ cons_option (h i) [] → so_far ++ filter_map h (range_with_len i (end - i)) ≡ whole →
+    more ++ filter_map h (range_with_len (i + 1) (end - (i + 1))) ≡ whole
+next-line h so_far more whole i end below is known =
+    let rest = filter_map h (range_with_len (i + 1) (end - (i + 1))) in
+    let left : end - i ≡ suc (end - (i + 1)) = omega arith in
+    ap (λ front. front ++ rest) is ∙ sym (put-on so_far rest (h i))
+    ∙ sym (ap (λ n. so_far ++ filter_map h (range_with_len i n)) left) ∙ known
+
+-- behind the last line nothing is left
+pub none-left : (h : ℕ → Option Stack) (found whole : List Stack) (i end : ℕ) → end ≤ i →
+    found ++ filter_map h (range_with_len i (end - i)) ≡ whole → found ≡ whole
+none-left h found whole i end past known =
+    let none : end - i ≡ 0 = omega arith in
+    sym (ap (λ n. found ++ filter_map h (range_with_len i n)) none ∙ append-nil found) ∙ known

@@ -1,6 +1,6 @@
 -- Where stacks lie: a task's where boot has laid it, and a handler's between two symbols of the image.
 use Rattle.std.specs.Prelude.{◌+◌, ◌++◌, ℕ, List, [], ◌∷◌, Option, None, Some, Result, Ok, Err, codes}
-use Rattle.std.specs.List.{cons_option}
+use Rattle.std.specs.List.{cons_option, filter_map, range_with_len}
 use Rattle.std.specs.Option.{option_map}
 use Rattle.std.specs.Fmt.{decimal}
 use Rattle.brd_base.specs.Space.{base}
@@ -66,6 +66,11 @@ handler_stacks symbols [] = []
 handler_stacks symbols (handler ∷ handlers) =
     cons_option (handler_stack symbols handler.line) (handler_stacks symbols handlers)
 
+-- those of time handlers, which have the lines from 32 to 159
+abbrev pub time_handler_stacks : List Symbol → List Stack
+time_handler_stacks symbols = filter_map (handler_stack symbols) (range_with_len 32 128)
+
 -- the stacks of a configuration: the first one that it leaves open ends where RAM ends
 abbrev pub stacks_of : List Symbol → ℕ → List TaskConfig → List HandlerConfig → List Stack
-stacks_of symbols ram tasks handlers = task_stacks symbols (base + ram) tasks ++ handler_stacks symbols handlers
+stacks_of symbols ram tasks handlers =
+    task_stacks symbols (base + ram) tasks ++ handler_stacks symbols handlers ++ time_handler_stacks symbols

@@ -1,6 +1,6 @@
 -- Stacks in words: a line for each with how much of it was used at most, the event and the place, and one for each
 -- store below a stack, or that there is none.
-use Rattle.std.specs.Prelude.{◌-◌, ℕ, nat_lt, if◌then◌else◌, List, [], ◌++◌, codes, Option, None, Some}
+use Rattle.std.specs.Prelude.{◌-◌, ◌/◌, ◌%◌, ◌==◌, ℕ, nat_lt, if◌then◌else◌, List, [], ◌++◌, codes, Option, None, Some}
 use Rattle.std.specs.List.{flat_map}
 use Rattle.std.specs.Fmt.{decimal}
 use Rattle.brd_mem.specs.declared.image.Symbol.{Symbol}
@@ -15,10 +15,20 @@ use Rattle.brd_stacks.specs.Depths.{some_overflow}
 abbrev pub named_text : List ℕ → ℕ → List ℕ
 named_text name n = name ++ codes " " ++ decimal n
 
--- a task's strand is its ID, a handler's 256 and its line
+-- A task's strand is its ID, a handler's 256 and its line. From line 32 on lines are of time handlers: the cyclic
+-- handler of ID c has line 30 + 2 * c, the alarm handler of ID a line 31 + 2 * a.
+
+abbrev pub time_handler_text : ℕ → List ℕ
+time_handler_text line =
+    if line % 2 == 0 then named_text (codes "cyclic handler") ((line - 30) / 2)
+    else named_text (codes "alarm handler") ((line - 31) / 2)
+
+abbrev pub handler_text : ℕ → List ℕ
+handler_text line = if nat_lt line 32 then named_text (codes "handler") line else time_handler_text line
+
 abbrev pub strand_text : ℕ → List ℕ
 strand_text strand =
-    if nat_lt strand 256 then named_text (codes "task") strand else named_text (codes "handler") (strand - 256)
+    if nat_lt strand 256 then named_text (codes "task") strand else handler_text (strand - 256)
 
 abbrev pub in_brackets : Option Symbol → ℕ → List ℕ
 in_brackets None address = []

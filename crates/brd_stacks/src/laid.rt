@@ -14,6 +14,7 @@ ghost use Rattle.brd_stacks.specs.Laid.{
   stacks_of,
   task_stack,
   task_stacks,
+  time_handler_stacks,
 };
 
 use crate::stack::Stack;
@@ -46,6 +47,7 @@ pub fn stacks_of(
     let free = BASE + config.ram;
     put_tasks(&mut stacks, symbols, free, config.tasks.as_slice())?;
     put_handlers(alloc, &mut stacks, symbols, config.handlers.as_slice())?;
+    put_time_handlers(alloc, &mut stacks, symbols)?;
     Ok(stacks)
 }
 
@@ -99,6 +101,20 @@ fn put_handlers(
 {
     for handler in handlers {
         put_handler(alloc, stacks, symbols, handler.line)?;
+    }
+    Ok(())
+}
+
+/// Puts the stacks of time handlers at the end.
+fn put_time_handlers(
+    alloc: Global,
+    stacks: &mut List<Stack>,
+    symbols: &[Symbol],
+) -> Result<(), NoMemory>
+    ensures { OnOk result (stacks.new ≡ stacks.old ++ time_handler_stacks symbols.now) }
+{
+    for line in 32..160u8 {
+        put_handler(alloc, stacks, symbols, line)?;
     }
     Ok(())
 }

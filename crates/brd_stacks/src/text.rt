@@ -1,10 +1,11 @@
 //! Stacks in words.
 
-ghost use Rattle.std.specs.Prelude.{◌≡◌, ◌++◌, OnOk};
+ghost use Rattle.std.specs.Prelude.{◌≡◌, ◌++◌, ◌≤◌, OnOk};
 ghost use Rattle.std.specs.Fmt.{decimal};
 ghost use Rattle.brd_stacks.specs.Text.{
   below_text,
   fall_text,
+  handler_text,
   named_text,
   overflow_text,
   overflows_text,
@@ -14,6 +15,7 @@ ghost use Rattle.brd_stacks.specs.Text.{
   store_text,
   stacks_text,
   strand_text,
+  time_handler_text,
   track_text,
   tracks_text,
   used_by,
@@ -215,7 +217,28 @@ fn put_strand(alloc: Global, strand: u16, out: &mut Vec<u8>) -> Result<(), NoMem
     if strand < 256 {
         return put_named(alloc, "task", u64::from(strand), out);
     }
-    put_named(alloc, "handler", u64::from(strand - 256), out)
+    put_handler(alloc, strand - 256, out)
+}
+
+/// Puts at the end whose handler that of a line is.
+fn put_handler(alloc: Global, line: u16, out: &mut Vec<u8>) -> Result<(), NoMemory>
+    ensures { OnOk result (out.new.items ≡ out.old.items ++ handler_text line) }
+{
+    if line < 32 {
+        return put_named(alloc, "handler", u64::from(line), out);
+    }
+    put_time_handler(alloc, line, out)
+}
+
+/// Puts at the end what the time handler of a line is called.
+fn put_time_handler(alloc: Global, line: u16, out: &mut Vec<u8>) -> Result<(), NoMemory>
+    requires { 32 ≤ line }
+    ensures { OnOk result (out.new.items ≡ out.old.items ++ time_handler_text line) }
+{
+    if line % 2 == 0 {
+        return put_named(alloc, "cyclic handler", u64::from((line - 30) / 2), out);
+    }
+    put_named(alloc, "alarm handler", u64::from((line - 31) / 2), out)
 }
 
 /// Puts a name and a number at the end.

@@ -6,6 +6,7 @@ mod SizeLemmas
 mod PointLemmas
 mod MarkedLemmas
 mod HeldLemmas
+mod BadLemmas
 mod HitLemmas
 mod SetLemmas
 mod SessionLemmas

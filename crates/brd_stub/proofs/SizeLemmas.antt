@@ -33,11 +33,11 @@ more : (front back : List ℕ) (m n : ℕ) → length front ≡ m → length bac
 more front back m n first second = length-append front back ∙ omega (arith, first, second)
 
 -- all registers have 38 times as many
-pub registers-size : (order : Order) (s : State) (fault : Option Fault) → length s.registers ≡ 32 →
-    length (registers_text order s fault) ≡ 304
-registers-size order s fault count =
+pub registers-size : (order : Order) (s : State) (fault : Option Fault) (bad : Option ℕ) → length s.registers ≡ 32 →
+    length (registers_text order s fault bad) ≡ 304
+registers-size order s fault bad count =
     more _ _ 296 8 (more _ _ 288 8 (more _ _ 280 8 (more _ _ 272 8 (more _ _ 264 8 (more _ _ 256 8 (words-size order s.registers ∙ omega (arith, count)) (length-replicate {A = ℕ} 8 120))
-    (word-size order s.lo)) (word-size order s.hi)) (length-replicate {A = ℕ} 8 120)) (register-size order (cause_of fault)))
+    (word-size order s.lo)) (word-size order s.hi)) (register-size order bad)) (register-size order (cause_of fault)))
     (word-size order s.pc)
 
 some-size : (bytes : List ℕ) → length bytes ≤ 8192 → length (bytes_text bytes) ≤ 16384

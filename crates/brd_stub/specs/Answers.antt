@@ -12,7 +12,8 @@ use Rattle.brd_gdb.specs.declared.request.Move.TheVariants as move
 use Rattle.brd_gdb.specs.declared.request.ThreadId.{ThreadId}
 use Rattle.brd_gdb.specs.declared.request.ThreadId.TheVariants as id
 use Rattle.brd_gdb.specs.declared.request.ThreadKind.{ThreadKind}
-use Rattle.brd_gdb.specs.declared.request.Monitor.TheVariants.{Goto, Threads, Mark, Back}
+use Rattle.brd_gdb.specs.declared.request.MarkName.{MarkName}
+use Rattle.brd_gdb.specs.declared.request.Monitor.TheVariants.{Goto, Threads, Mark, Back, MarkByName, GotoName}
 use Rattle.brd_gdb.specs.declared.request.Request.{Request}
 use Rattle.brd_gdb.specs.declared.request.Request.TheVariants as request
 use Rattle.brd_stub.specs.declared.session.Session.{Session}
@@ -20,7 +21,9 @@ use Rattle.brd_stub.specs.declared.points.Point.{Point}
 use Rattle.brd_stub.specs.declared.halt.Reason.{Reason}
 use Rattle.brd_stub.specs.declared.halt.Told.TheVariants as told
 use Rattle.brd_stub.specs.Registers.{context_or_rest, registers_text, register_text}
+use Rattle.brd_stub.specs.BadAddress.{bad_address}
 use Rattle.brd_stub.specs.Reading.{IsMemoryText}
+use Rattle.brd_stub.specs.Marks.{mark_of, with_mark}
 use Rattle.brd_stub.specs.Points.{may_set, with_point, without_point}
 use Rattle.brd_stub.specs.Moving.{stepping, of_all, moved_to, Ended, GoesForward, GoesBack}
 use Rattle.brd_stub.specs.declared.threads.Thread.{Thread}
@@ -34,10 +37,13 @@ use Rattle.brd_stub.specs.Halting.{halt_text, current_text, fitting, done_text, 
 -- What is replied to a request that reads a board: the registers of a thread, or memory. A write is refused.
 abbrev pub Reads : BoardState → Thread → Request → List ℕ → Type 0
 Reads board thread request.ReadRegisters reply =
-    reply ≡ registers_text board.memory.order (context_or_rest (context_at board thread)) (fault_at board thread)
+    reply
+    ≡ registers_text board.memory.order (context_or_rest (context_at board thread)) (fault_at board thread)
+    (bad_address board thread)
 Reads board thread (request.ReadRegister number) reply =
     reply
-    ≡ register_text board.memory.order (context_or_rest (context_at board thread)) (fault_at board thread) number
+    ≡ register_text board.memory.order (context_or_rest (context_at board thread)) (fault_at board thread)
+    (bad_address board thread) number
 Reads board thread (request.ReadMemory address length) reply = IsMemoryText board.memory address length reply
 Reads board thread request.Write reply = reply ≡ codes "E01"
 Reads board thread other reply = Unit {0}
@@ -70,6 +76,17 @@ marked_at marks number position = if nat_lt number 10 then slice_set marks numbe
 
 abbrev pub marked_here : Session → ℕ → Session
 marked_here s number = record s { marks = marked_at s.marks number s.debugger.position }
+
+-- Marks with names: one stands at the position, or is gone to, if it is there.
+abbrev pub named_here : Session → MarkName → Session
+named_here s name = record s { named = with_mark s.named name s.debugger.position }
+
+abbrev pub gone_to_some : Session → Option ℕ → Session
+gone_to_some s None = s
+gone_to_some s (Some position) = gone_to s position
+
+abbrev pub gone_to_name : Session → MarkName → Session
+gone_to_name s name = gone_to_some s (mark_of s.named name)
 
 -- a session of which other things are threads from now on, which they may be
 abbrev pub showing : Session → ThreadKind → Session
@@ -122,6 +139,8 @@ Becomes s (request.Monitor (Goto position)) next = next ≡ gone_to s position
 Becomes s (request.Monitor (Threads kind)) next = next ≡ with_threads s kind
 Becomes s (request.Monitor (Mark number)) next = next ≡ marked_here s number
 Becomes s (request.Monitor (Back number)) next = next ≡ gone_to s (slice_index_or s.marks number 0)
+Becomes s (request.Monitor (MarkByName name)) next = next ≡ named_here s name
+Becomes s (request.Monitor (GotoName name)) next = next ≡ gone_to_name s name
 Becomes s (request.SetThread moves thread) next =
     next ≡ record s { selection = selected_by moves (named_in s thread) thread s.selection }
 Becomes s (request.IsAlive thread) next =
@@ -176,3 +195,4 @@ pub record Begins (boot : BoardState) (events : List Event) (s : Session) : Type
   pub halt : s.halt ≡ record { thread = chosen_first boot (first_task boot); reason = Reason.Done }
   pub selection : s.selection ≡ beginning (chosen_first boot (first_task boot))
   pub marks : s.marks ≡ marks_first
+  pub named : s.named ≡ []

@@ -1,11 +1,13 @@
 pub mod Registers
 pub mod Threads
 pub mod Reading
+pub mod BadAddress
 pub mod Points
 pub mod Hits
 pub mod Reasons
 pub mod Halting
 pub mod Stepping
 pub mod Selecting
+pub mod Marks
 pub mod Moving
 pub mod Answers

@@ -153,7 +153,7 @@ task_numbered b n = if is_some (task_of b n) then Some (thread.Task n) else None
 
 abbrev pub handler_numbered : BoardState → ℕ → Option Thread
 handler_numbered b line =
-    if nat_lt line 32 && is_some (handling b line) then Some (thread.Handler line) else None
+    if nat_lt line 160 && is_some (handling b line) then Some (thread.Handler line) else None
 
 abbrev pub processor_numbered : BoardState → ℕ → Option Thread
 processor_numbered b n = if nat_le n 8 && is_some (standing_of b n) then Some (thread.Processor n) else None

@@ -6,8 +6,10 @@
 #![tactic(auto)]
 
 mod answer;
+mod exceptions;
 mod halt;
 pub mod laws;
+mod marks;
 mod memory;
 mod monitor;
 mod moves;

@@ -39,13 +39,14 @@ pub fn show_registers(
     order: Order,
     context: &Context,
     fault: Option<Fault>,
+    bad: Option<u32>,
 ) -> Result<(), NoMemory>
-    ensures is { OnOk result (out.new.items ≡ out.old.items ++ registers_text order context.now fault) }
+    ensures is { OnOk result (out.new.items ≡ out.old.items ++ registers_text order context.now fault bad) }
     ensures size { OnOk result (length out.new.items ≤ length out.old.items + 304) }
 {
     // For the proof alone: its contract says how many words they are.
     let _ = context.registers();
-    show_context(out, order, context, fault)
+    show_context(out, order, context, fault, bad)
 }
 
 /// Puts the registers of a context at the end.
@@ -54,14 +55,15 @@ fn show_context(
     order: Order,
     context: &Context,
     fault: Option<Fault>,
+    bad: Option<u32>,
 ) -> Result<(), NoMemory>
-    ensures { OnOk result (out.new.items ≡ out.old.items ++ registers_text order context.now fault) }
+    ensures { OnOk result (out.new.items ≡ out.old.items ++ registers_text order context.now fault bad) }
 {
     show_words(out, order, context.registers())?;
     show_unavailable(out, 1)?;
     show_word(out, order, context.lo())?;
     show_word(out, order, context.hi())?;
-    show_unavailable(out, 1)?;
+    show_word_or_none(out, order, bad)?;
     show_word_or_none(out, order, cause_of(fault))?;
     show_word(out, order, context.pc())
 }
@@ -99,12 +101,13 @@ pub fn show_register(
     order: Order,
     context: &Context,
     fault: Option<Fault>,
+    bad: Option<u32>,
     number: u32,
 ) -> Result<(), NoMemory>
-    ensures is { OnOk result (out.new.items ≡ out.old.items ++ register_text order context.now fault number) }
+    ensures is { OnOk result (out.new.items ≡ out.old.items ++ register_text order context.now fault bad number) }
     ensures size { OnOk result (length out.new.items ≤ length out.old.items + 8) }
 {
-    show_word_or_none(out, order, register(context, fault, number))
+    show_word_or_none(out, order, register(context, fault, bad, number))
 }
 
 /// Puts a register at the end, where it can be read.
@@ -118,13 +121,14 @@ fn show_word_or_none(out: &mut Vec<u8>, order: Order, word: Option<u32>) -> Resu
 }
 
 /// The word of the register of a number; None where it can't be read.
-fn register(context: &Context, fault: Option<Fault>, number: u32) -> Option<u32>
-    ensures { result ≡ register_of context.now fault number }
+fn register(context: &Context, fault: Option<Fault>, bad: Option<u32>, number: u32) -> Option<u32>
+    ensures { result ≡ register_of context.now fault bad number }
 {
     match number {
         0..=31 => Some(context.word(number as u8)),
         33 => Some(context.lo()),
         34 => Some(context.hi()),
+        35 => bad,
         36 => cause_of(fault),
         37 => Some(context.pc()),
         38..=71 => Some(0),

@@ -18,6 +18,8 @@ ghost use Rattle.brd_stub.specs.Answers.{
   at_stop,
   marked_at,
   marked_here,
+  named_here,
+  gone_to_name,
   gone_to,
   named_in,
   whose_of,
@@ -32,6 +34,7 @@ ghost use Rattle.brd_stub.specs.Threads.{thread_for};
 
 use crate::answer::Answer;
 use crate::halt::{Halt, Reason, Stop, Told};
+use crate::marks::Marks;
 use crate::moves::{Origin, backward, forward};
 use crate::points::{Point, Points, load};
 use crate::selection::Selection;
@@ -41,7 +44,7 @@ use crate::threads::{Thread, Whose, executing, first_of, may_show, switched, thr
 use brd_base::NoMemory;
 use brd_board::Board;
 use brd_debug::{DebugFault, Debugger, Only, Stepper};
-use brd_gdb::{Monitor, Move, Request, ThreadId, ThreadKind};
+use brd_gdb::{MarkName, Monitor, Move, Request, ThreadId, ThreadKind};
 use brd_journal::Journal;
 use brd_progress::Progress;
 use std::alloc::Global;
@@ -65,6 +68,8 @@ pub struct Session {
     pub selection: Selection,
     /// At which positions the marks stand.
     pub marks: [u64; MARKS],
+    /// Those with names.
+    pub named: Marks,
 }
 
 /// Written out, so that a function that lets one go is proved with a call, and not with the end of each part.
@@ -78,6 +83,7 @@ impl Drop for Session {
             kind: _,
             selection: _,
             marks: _,
+            named: _,
         } = self;
     }
 }
@@ -100,6 +106,7 @@ impl Session {
             kind: first.kind,
             selection: Selection::new(first.thread),
             marks: [0; MARKS],
+            named: Marks::new(alloc),
         })
     }
 
@@ -144,6 +151,8 @@ impl Session {
                 let position = self.mark_at(number);
                 self.go_to(alloc, position, progress)
             }
+            Request::Monitor(Monitor::MarkByName(name)) => self.mark_by_name(alloc, name),
+            Request::Monitor(Monitor::GotoName(name)) => self.go_to_name(alloc, name, progress),
             Request::SetThread { moves, thread } => self.set_thread(alloc, moves, thread),
             Request::SetPoint {
                 kind,
@@ -312,6 +321,45 @@ impl Session {
             console: text(alloc, console.as_bytes())?,
             reply: text(alloc, b"OK")?,
         })
+    }
+
+    /// Lets a mark with a name stand at the position, and says on GDB's console whether it does.
+    fn mark_by_name(&mut self, alloc: Global, name: MarkName) -> Result<Answer, NoMemory>
+        ensures becomes { IfOk result (λ _. self.new ≡ named_here self.old name) }
+        ensures short { IfOk result (λ answer. length answer.reply.items ≤ packet_size) }
+    {
+        let position = self.debugger.position();
+        let console = if self.named.set(name, position)? {
+            format!(in alloc; "the mark stands at {position}\n")?
+        } else {
+            format!(in alloc; "64 other marks have names\n")?
+        };
+        Ok(Answer {
+            console: text(alloc, console.as_bytes())?,
+            reply: text(alloc, b"OK")?,
+        })
+    }
+
+    /// Goes to where the mark of a name stands, and says on GDB's console where it is, or that there is none.
+    fn go_to_name<P: Progress>(
+        &mut self,
+        alloc: Global,
+        name: MarkName,
+        progress: &mut P,
+    ) -> Result<Answer, NoMemory>
+        ensures becomes { IfOk result (λ _. self.new ≡ gone_to_name self.old name) }
+        ensures short { IfOk result (λ answer. length answer.reply.items ≤ packet_size) }
+    {
+        match self.named.position_of(name) {
+            Some(position) => self.go_to(alloc, position, progress),
+            None => Ok(Answer {
+                console: text(
+                    alloc,
+                    b"no mark has this name; `monitor marks` lists them\n",
+                )?,
+                reply: text(alloc, b"OK")?,
+            }),
+        }
     }
 
     /// Lets a mark stand at a position; one that isn't there stands nowhere.

@@ -4,12 +4,14 @@ ghost use Rattle.std.specs.Prelude.{◌≡◌, ◌≤◌, [], length, IfOk};
 ghost use Rattle.brd_debug.specs.Debugger.{shown};
 ghost use Rattle.brd_gdb.specs.Receiving.{packet_size};
 ghost use Rattle.brd_stub.specs.Answers.{Reads};
+ghost use Rattle.brd_stub.specs.BadAddress.{bad_address};
 ghost use Rattle.brd_stub.specs.Halting.{halt_text, current_text, fitting};
 ghost use Rattle.brd_stub.specs.Reading.{IsMemoryText};
 ghost use Rattle.brd_stub.specs.Registers.{context_or_rest, registers_text, register_text};
 ghost use Rattle.brd_stub.specs.Threads.{context_at, fault_at};
 
 use crate::answer::Answer;
+use crate::exceptions::bad_address;
 use crate::halt::{Halt, show_halt};
 use crate::memory::show_memory;
 use crate::registers::{context_of, show_register, show_registers};
@@ -113,12 +115,19 @@ pub fn plain(alloc: Global, reply: Vec<u8>) -> Answer
 fn registers(alloc: Global, board: &Board, thread: Thread) -> Result<Vec<u8>, NoMemory>
     ensures is { IfOk result
         (λ reply. reply.items ≡ registers_text board.now.memory.order (context_or_rest (context_at board.now thread))
-        (fault_at board.now thread)) }
+        (fault_at board.now thread) (bad_address board.now thread)) }
     ensures short { IfOk result (λ reply. length reply.items ≤ packet_size) }
 {
     let mut reply = Vec::new(alloc);
     let fault = fault_at(board, thread);
-    show_registers(&mut reply, board.order(), &context_of(board, thread), fault)?;
+    let bad = bad_address(board, thread);
+    show_registers(
+        &mut reply,
+        board.order(),
+        &context_of(board, thread),
+        fault,
+        bad,
+    )?;
     Ok(reply)
 }
 
@@ -126,16 +135,18 @@ fn registers(alloc: Global, board: &Board, thread: Thread) -> Result<Vec<u8>, No
 fn register(alloc: Global, board: &Board, thread: Thread, number: u32) -> Result<Vec<u8>, NoMemory>
     ensures is { IfOk result
         (λ reply. reply.items ≡ register_text board.now.memory.order (context_or_rest (context_at board.now thread))
-        (fault_at board.now thread) number) }
+        (fault_at board.now thread) (bad_address board.now thread) number) }
     ensures short { IfOk result (λ reply. length reply.items ≤ packet_size) }
 {
     let mut reply = Vec::new(alloc);
     let fault = fault_at(board, thread);
+    let bad = bad_address(board, thread);
     show_register(
         &mut reply,
         board.order(),
         &context_of(board, thread),
         fault,
+        bad,
         number,
     )?;
     Ok(reply)

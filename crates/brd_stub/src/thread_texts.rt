@@ -10,8 +10,8 @@ use brd_board::{Board, Standing, TaskId, TaskState, TaskView, WaitKind, WaitReas
 use brd_gdb::{ThreadKind, put_hex};
 use std::alloc::Global;
 
-/// After which number there is no thread: that of the handler of the last line.
-const MOST_NUMBERS: u32 = 288;
+/// The number from which on there is no thread: after that of the handler of the last line.
+const MOST_NUMBERS: u32 = 416;
 
 /// Puts a thread's number at the end.
 pub fn show_thread(out: &mut Vec<u8>, thread: Thread) -> Result<(), NoMemory>
@@ -155,12 +155,10 @@ fn show_ready(
             }
             show_number(alloc, out, "ready under task", other)
         }
-        Some(Standing::Handler(line)) => show_number(
-            alloc,
-            out,
-            "ready under handler",
-            line as u16,
-        ),
+        Some(Standing::Handler(line)) => {
+            out.extend_from_slice(b"ready under ")?;
+            show_handler(alloc, out, line)
+        }
         Some(Standing::Idle) | Some(Standing::Stopped) | None => {
             out.extend_from_slice(b"ready")?;
             Ok(())
@@ -218,9 +216,21 @@ pub fn show_standing(alloc: Global, out: &mut Vec<u8>, standing: Standing) -> Re
         Standing::Idle => out.extend_from_slice(b"idle")?,
         Standing::Stopped => out.extend_from_slice(b"stopped")?,
         Standing::Task(id) => show_number(alloc, out, "task", id)?,
-        Standing::Handler(line) => show_number(alloc, out, "handler", line as u16)?,
+        Standing::Handler(line) => show_handler(alloc, out, line)?,
     }
     Ok(())
+}
+
+/// Puts at the end what the handler of a line is called: from line 32 on it is a time handler, of the cyclic handler of
+/// ID C line 30 + 2C, of the alarm handler of ID A line 31 + 2A.
+pub fn show_handler(alloc: Global, out: &mut Vec<u8>, line: u8) -> Result<(), NoMemory> {
+    if line < 32 {
+        return show_number(alloc, out, "handler", line as u16);
+    }
+    if line % 2 == 0 {
+        return show_number(alloc, out, "cyclic handler", (line as u16 - 30) / 2);
+    }
+    show_number(alloc, out, "alarm handler", (line as u16 - 31) / 2)
 }
 
 /// Puts a name and a number at the end.

@@ -335,7 +335,7 @@ fn task_numbered(board: &Board, number: u16) -> Option<Thread>
 fn handler_numbered(board: &Board, line: u32) -> Option<Thread>
     ensures { result ≡ handler_numbered board.now line }
 {
-    if line < 32 && handling(board, line as u8).is_some() {
+    if line < 160 && handling(board, line as u8).is_some() {
         return Some(Thread::Handler(line as u8));
     }
     None

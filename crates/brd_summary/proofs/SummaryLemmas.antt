@@ -6,7 +6,7 @@ use Rattle.std.proofs.Math.Seq.{take-suc}
 use Rattle.brd_listing.specs.Listing.{IsBehind}
 use Rattle.std.proofs.lemmas.List.Elements.{All-head, All-tail}
 use Rattle.std.specs.Prelude.{slice_index_or, Option, None, All}
-use Rattle.std.specs.List.{AllByRecursion, range_with_len}
+use Rattle.std.specs.List.{AllByRecursion, flat_map, range_with_len}
 use Rattle.brd_kernel.specs.declared.processor.Standing.{Standing}
 use Rattle.brd_board.specs.declared.event.Event.{Event}
 use Rattle.brd_board.specs.Board.{BoardState, standing_of}
@@ -67,6 +67,23 @@ numbers-on IsOf k a b c least are one =
 
 pub two-behind : (a b c one two : List ℕ) → b ≡ a ++ one → c ≡ b ++ two → c ≡ a ++ (one ++ two)
 two-behind a b c one two first second = second ∙ ap (λ (s : List ℕ). s ++ two) first ∙ append_assoc a one two
+
+-- with the text of the next number behind that of those before it, the numbers that are left are one fewer
+pub next-text : (h : ℕ → List ℕ) (so_far more whole : List ℕ) (i end : ℕ) → i < end → more ≡ so_far ++ h i →
+    so_far ++ flat_map h (range_with_len i (end - i)) ≡ whole →
+    more ++ flat_map h (range_with_len (i + 1) (end - (i + 1))) ≡ whole
+next-text h so_far more whole i end below is known =
+    let rest = flat_map h (range_with_len (i + 1) (end - (i + 1))) in
+    let left : end - i ≡ suc (end - (i + 1)) = omega arith in
+    ap (λ front. front ++ rest) is ∙ append_assoc so_far (h i) rest
+    ∙ sym (ap (λ n. so_far ++ flat_map h (range_with_len i n)) left) ∙ known
+
+-- behind the last number nothing is left
+pub none-left : (h : ℕ → List ℕ) (found whole : List ℕ) (i end : ℕ) → end ≤ i →
+    found ++ flat_map h (range_with_len i (end - i)) ≡ whole → found ≡ whole
+none-left h found whole i end past known =
+    let none : end - i ≡ 0 = omega arith in
+    sym (ap (λ n. found ++ flat_map h (range_with_len i n)) none ∙ append-nil found) ∙ known
 
 pub tasks-on : (names : Names) (tasks slice : List TaskSeen) (i : ℕ) (a b c : List ℕ) (d : TaskSeen) → slice ≡ tasks →
     i < length slice → IsBehind (AreTexts (IsTaskLine names) (take i tasks)) a b →

@@ -7,7 +7,7 @@ use Rattle.std.specs.Fmt.{decimal}
 use Rattle.brd_board.specs.Board.{BoardState}
 use Rattle.brd_names.specs.declared.names.Names.{Names}
 use Rattle.brd_names.specs.Addresses.{both_text}
-use Rattle.brd_names.specs.Lines.{count_text, named_text}
+use Rattle.brd_names.specs.Lines.{called_text, count_text, named_text}
 use Rattle.brd_verdicts.specs.declared.accounts.Accounts.{Accounts}
 use Rattle.brd_verdicts.specs.declared.circle.Wait.{Wait}
 use Rattle.brd_verdicts.specs.declared.losses.LostRaises.{LostRaises}
@@ -72,15 +72,23 @@ pub record IsRefused (names : Names) (it : Refused) (text : List ℕ) : Type 0 w
 
 -- ---- raises that had no effect
 
+-- the line; if it was pending, and from line 32 on, its time handler
+abbrev pub raised_text : LostRaises → List ℕ
+raised_text it = if it.pending then called_text (codes "line") it.line else named_text (codes "line") it.line
+
+-- why a raise from outside finds no handler: lines from 32 on are raised by ticks alone
+abbrev pub unraised_text : ℕ → List ℕ
+unraised_text line = if nat_lt line 32 then codes ", which has no handler" else codes ", which is raised by ticks alone"
+
 abbrev pub why_text : LostRaises → List ℕ
-why_text it = if it.pending then codes ", pending already" else codes ", which has no handler"
+why_text it = if it.pending then codes ", pending already" else unraised_text it.line
 
 abbrev pub first_text : ℕ → List ℕ
 first_text count = if count == 1 then codes "," else codes ", the first"
 
 abbrev pub lost_text : LostRaises → List ℕ
 lost_text it =
-    codes "lost: " ++ count_text it.count (codes "raise") ++ named_text (codes " of line") it.line ++ why_text it
+    codes "lost: " ++ count_text it.count (codes "raise") ++ codes " of " ++ raised_text it ++ why_text it
     ++ first_text it.count ++ named_text (codes " at event") it.position ++ codes "\n"
 
 -- ---- all of it

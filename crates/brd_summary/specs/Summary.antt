@@ -1,14 +1,14 @@
 -- What a summary says of how a board stands after the events of a journal.
 use Rattle.std.specs.Prelude.{◌≡◌, ◌⊎◌, ℕ, List, [], ◌++◌, codes, slice_index_or, take, Option, None, Some}
 use Rattle.std.specs.Option.{option_map}
-use Rattle.std.specs.List.{range_with_len}
+use Rattle.std.specs.List.{flat_map, range_with_len}
 use Rattle.std.specs.Fmt.{decimal}
 use Rattle.brd_tasks.specs.declared.status.TaskState.{TaskState}
 use Rattle.brd_tasks.specs.declared.status.WaitReason.{WaitReason}
 use Rattle.brd_tasks.specs.declared.task.TaskView.{TaskView}
 use Rattle.brd_kernel.specs.declared.processor.Standing.{Standing}
 use Rattle.brd_board.specs.declared.event.Event.{Event}
-use Rattle.brd_board.specs.Board.{BoardState, task_of, standing_of}
+use Rattle.brd_board.specs.Board.{BoardState, task_of, standing_of, mutex_owner_of}
 use Rattle.brd_board.specs.Runs.{without_context}
 use Rattle.brd_journal.specs.Playing.{board_at}
 use Rattle.brd_timeline.specs.Ends.{EndsWith}
@@ -128,6 +128,21 @@ pub record IsTask (names : Names) (boot : BoardState) (events : List Event) (n i
   pub is_wait : IsWait view.waiting view.due wait
   pub line : text ≡ task_text names id view.state since place wait
 
+-- ---- mutexes
+
+-- which task has a mutex, if one has it
+abbrev pub owner_text : ℕ → Option ℕ → List ℕ
+owner_text mutex None = []
+owner_text mutex (Some task) =
+    named_text (codes "mutex") mutex ++ named_text (codes ": task") task ++ codes " has it\n"
+
+abbrev pub owned_text : BoardState → ℕ → List ℕ
+owned_text board mutex = owner_text mutex (mutex_owner_of board mutex)
+
+-- a line for each that a task has, by rising ID
+abbrev pub owners_text : BoardState → List ℕ
+owners_text board = flat_map (owned_text board) (range_with_len 1 255)
+
 -- ---- all of it
 
 -- a line where a board is deadlocked, and none where it isn't
@@ -137,8 +152,8 @@ IsDeadlock board text =
     × (text ≡ codes "deadlock: no task is ready, and no tick and no pending interrupt releases one that waits\n"))
     ⊎ ((IsDeadlocked board → ⊥) × (text ≡ []))
 
--- The processors, then the tasks, by rising number, whether the board is deadlocked, which tasks wait for each other,
--- which calls were refused, and which raises had no effect.
+-- The processors, then the tasks, by rising number, which tasks have mutexes, whether the board is deadlocked, which
+-- tasks wait for each other, which calls were refused, and which raises had no effect.
 pub record IsSummary (names : Names) (boot : BoardState) (events : List Event) (n : ℕ) (text : List ℕ)
     : Type 0 where
   pub processors : List ℕ
@@ -150,4 +165,4 @@ pub record IsSummary (names : Names) (boot : BoardState) (events : List Event) (
   pub is_deadlock : IsDeadlock (board_at boot events n) deadlock
   pub are_findings :
       AreFindings names (accounts_of_run boot (take n events)) (board_at boot events n) findings
-  pub is : text ≡ processors ++ tasks ++ deadlock ++ findings
+  pub is : text ≡ processors ++ tasks ++ owners_text (board_at boot events n) ++ deadlock ++ findings

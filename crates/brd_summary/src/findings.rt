@@ -16,7 +16,9 @@ ghost use Rattle.brd_summary.specs.Findings.{
   lost_text,
   more_text,
   next_text,
+  raised_text,
   refused_text,
+  unraised_text,
   wait_text,
   why_text,
 };
@@ -24,8 +26,8 @@ ghost use Rattle.brd_summary.specs.Texts.{AreTexts};
 
 use brd_base::{List, NoMemory};
 use brd_board::Board;
-use brd_names::{Names, put, put_count, put_named, put_number, put_signed};
-use brd_seen::{SaidCall, context_advice, error_name};
+use brd_names::{Names, put, put_called, put_count, put_named, put_number, put_signed};
+use brd_seen::{SaidCall, error_name, refusal_advice};
 use brd_verdicts::{
     Accounts, Lock, LostRaises, Refused, Unit, Units, Wait, circular_wait, is_same,
 };
@@ -217,16 +219,13 @@ fn said(alloc: Global, kind: Refused) -> Result<Vec<u8>, NoMemory> {
         Some(name) => put(&mut what, name)?,
         None => put_signed(alloc, &mut what, kind.code)?,
     }
-    put_context(&mut what, kind)?;
+    put_advice(&mut what, kind)?;
     Ok(what)
 }
 
-/// Puts at the end where a call may not come from, and which one to make there, where it was refused for that.
-fn put_context(what: &mut Vec<u8>, kind: Refused) -> Result<(), NoMemory> {
-    if error_name(kind.code) != Some("E_CTX") {
-        return Ok(());
-    }
-    let Some(advice) = context_advice(kind.call.number) else {
+/// Puts at the end what is said of such a refusal, if something is.
+fn put_advice(what: &mut Vec<u8>, kind: Refused) -> Result<(), NoMemory> {
+    let Some(advice) = refusal_advice(kind.code, kind.call.number) else {
         return Ok(());
     };
     put(what, " (")?;
@@ -282,11 +281,22 @@ fn put_lost(alloc: Global, it: LostRaises, out: &mut Vec<u8>) -> Result<(), NoMe
 {
     put(out, "lost: ")?;
     put_count(alloc, out, it.count, "raise")?;
-    put_named(alloc, out, " of line", u64::from(it.line))?;
+    put(out, " of ")?;
+    put_raised(alloc, it, out)?;
     put(out, why_of(it))?;
     put(out, first_of(it.count))?;
     put_named(alloc, out, " at event", it.position)?;
     put(out, "\n")
+}
+
+/// Puts the line at the end; if it was pending, and from line 32 on, its time handler.
+fn put_raised(alloc: Global, it: LostRaises, out: &mut Vec<u8>) -> Result<(), NoMemory>
+    ensures { OnOk result (out.new.items ≡ out.old.items ++ raised_text it) }
+{
+    if it.pending {
+        return put_called(alloc, out, "line", u16::from(it.line));
+    }
+    put_named(alloc, out, "line", u64::from(it.line))
 }
 
 /// Why raises had no effect.
@@ -296,7 +306,18 @@ fn why_of(it: LostRaises) -> &'static str
     if it.pending {
         ", pending already"
     } else {
+        unraised(it.line)
+    }
+}
+
+/// Why a raise of a line from outside finds no handler.
+fn unraised(line: u8) -> &'static str
+    ensures { result.now ≡ unraised_text line }
+{
+    if line < 32 {
         ", which has no handler"
+    } else {
+        ", which is raised by ticks alone"
     }
 }
 

@@ -20,6 +20,8 @@ ghost use Rattle.brd_summary.specs.Summary.{
   fault_front,
   fault_text,
   last_text,
+  owner_text,
+  owners_text,
   processor_text,
   since_text,
   step_text,
@@ -34,7 +36,7 @@ ghost use Rattle.brd_summary.specs.Summary.{
 
 use crate::findings::put_findings;
 use brd_base::NoMemory;
-use brd_board::{Standing, TaskState};
+use brd_board::{Board, Standing, TaskId, TaskState};
 use brd_names::{Names, put, put_named, put_number, put_standing, put_wait, put_who, state_name};
 use brd_seen::TaskSeen;
 use brd_trace::{LastFault, Tracer};
@@ -42,9 +44,9 @@ use brd_verdicts::{Findings, is_deadlocked};
 use std::alloc::Global;
 
 /// Puts at the end what stands after the events that were played: what each processor does, its last step and its last
-/// exception, what each task is, whether the board is deadlocked, which tasks wait for each other, which calls were
-/// refused, and which raises had no effect. It is given what was found of this run. `put_end` says what comes before
-/// it.
+/// exception, what each task is, which tasks have mutexes, whether the board is deadlocked, which tasks wait for each
+/// other, which calls were refused, and which raises had no effect. It is given what was found of this run. `put_end`
+/// says what comes before it.
 pub fn put_summary(
     tracer: &Tracer,
     alloc: Global,
@@ -62,9 +64,37 @@ pub fn put_summary(
 {
     put_processors(tracer, alloc, names, &found.steps, out)?;
     put_tasks(tracer, alloc, names, out)?;
+    put_owners(alloc, &tracer.playback.board, out)?;
     put_deadlock(tracer, out)?;
     put_findings(alloc, names, &found.accounts, &tracer.playback.board, out)?;
     Ok(())
+}
+
+/// Puts a line at the end for each mutex that a task has.
+fn put_owners(alloc: Global, board: &Board, out: &mut Vec<u8>) -> Result<(), NoMemory>
+    ensures { OnOk result (out.new.items ≡ out.old.items ++ owners_text board.now) }
+{
+    for mutex in 1..256u16 {
+        put_owner(alloc, mutex, board.mutex_owner(mutex), out)?;
+    }
+    Ok(())
+}
+
+/// Puts at the end which task has a mutex, if one has it.
+fn put_owner(
+    alloc: Global,
+    mutex: u16,
+    owner: Option<TaskId>,
+    out: &mut Vec<u8>,
+) -> Result<(), NoMemory>
+    ensures { OnOk result (out.new.items ≡ out.old.items ++ owner_text mutex owner) }
+{
+    let Some(task) = owner else {
+        return Ok(());
+    };
+    put_named(alloc, out, "mutex", u64::from(mutex))?;
+    put_named(alloc, out, ": task", u64::from(task))?;
+    put(out, " has it\n")
 }
 
 /// Puts a line at the end, where the board is deadlocked.

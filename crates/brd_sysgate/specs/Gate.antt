@@ -149,6 +149,14 @@ profile_table =
     ∷ service 90 (codes "trcv_mbx") 2 place.Waiting (λ a. call.TrcvMbx (a0 a) (a1 a))
     ∷ service 91 (codes "ref_mpf") 2 place.Task (λ a. call.RefMpf (a0 a) (a1 a))
     ∷ service 92 (codes "ref_mbx") 2 place.Task (λ a. call.RefMbx (a0 a) (a1 a))
+    ∷ service 93 (codes "sta_cyc") 1 place.Task (λ a. call.StaCyc (a0 a))
+    ∷ service 94 (codes "stp_cyc") 1 place.Task (λ a. call.StpCyc (a0 a))
+    ∷ service 95 (codes "sta_alm") 2 place.Task (λ a. call.StaAlm (a0 a) (a1 a))
+    ∷ service 96 (codes "ista_alm") 2 place.Handler (λ a. call.StaAlm (a0 a) (a1 a))
+    ∷ service 97 (codes "stp_alm") 1 place.Task (λ a. call.StpAlm (a0 a))
+    ∷ service 98 (codes "istp_alm") 1 place.Handler (λ a. call.StpAlm (a0 a))
+    ∷ service 99 (codes "ref_cyc") 2 place.Task (λ a. call.RefCyc (a0 a) (a1 a))
+    ∷ service 100 (codes "ref_alm") 2 place.Task (λ a. call.RefAlm (a0 a) (a1 a))
     ∷ service 112 (codes "iget_pid") 0 place.Handler (λ a. call.GetPid)
     ∷ []
 

@@ -1,6 +1,6 @@
 //! What is true of the table of service calls, and of calls that are made again.
 
-ghost use Rattle.std.specs.Prelude.{◌≡◌, ℕ, ◌<◌, ◌≤◌, IsTrue, Result, None, Err, false};
+ghost use Rattle.std.specs.Prelude.{◌≡◌, ℕ, ◌<◌, ◌≤◌, IsTrue, Result, Err, false};
 ghost use Rattle.brd_exec.specs.State.{State, read, advanced};
 ghost use Rattle.brd_kernel.specs.declared.call.Call.{Call as CallOf};
 ghost use Rattle.brd_kernel.specs.declared.call.Ercd.{Ercd as ErcdOf};

@@ -1,6 +1,6 @@
 //! The whole of a service call.
 
-ghost use Rattle.std.specs.Prelude.{◌≡◌, ◌<◌};
+ghost use Rattle.std.specs.Prelude.{◌≡◌};
 ghost use Rattle.brd_exec.specs.State.{advanced};
 ghost use Rattle.brd_kernel.specs.Kernel.{processor_at};
 ghost use Rattle.brd_kernel.specs.Services.{caller_on};

@@ -1,6 +1,6 @@
 //! The threads of a race: their start, what they give back, and what they leave.
 
-ghost use Rattle.std.specs.Prelude.{◌≡◌, ◌≢◌, ℕ, ◌+◌, ◌<◌, ◌≤◌, ◌==◌, true, false, length, slice_index_or, take};
+ghost use Rattle.std.specs.Prelude.{◌≡◌, ◌≢◌, ◌+◌, ◌≤◌, ◌==◌, true, false, length, take};
 ghost use Rattle.std.specs.Prelude.{vec_len, Decides, IfOk};
 ghost use Rattle.brd_journal.specs.Runs.{runs_of};
 ghost use Rattle.brd_ledgers.specs.Shares.{AreNew};

@@ -1,6 +1,6 @@
 //! What holds of the definitions, whatever the code does.
 
-ghost use Rattle.std.specs.Prelude.{◌≡◌, ◌&&◌, ◌≤◌, ℕ, nat_le, Ok};
+ghost use Rattle.std.specs.Prelude.{◌≡◌, ◌&&◌, ℕ, nat_le, Ok};
 ghost use Rattle.brd_mem.specs.declared.image.Image.{Image as ImageOf};
 ghost use Rattle.brd_config.specs.Configuration.{Configuration, IsConfiguration};
 ghost use Rattle.brd_board.specs.Board.{BoardState};

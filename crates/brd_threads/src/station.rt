@@ -1,6 +1,6 @@
 //! The station, what threads share under one lock: a board, its journal, and the script of what comes from outside.
 
-ghost use Rattle.std.specs.Prelude.{◌≡◌, ℕ, ◌+◌, ◌<◌, ◌≤◌, ◌==◌, ◌^◌, ◌∷◌, [], length, take, replicate, vec_len};
+ghost use Rattle.std.specs.Prelude.{◌≡◌, ◌+◌, ◌≤◌, ◌==◌, ◌∷◌, [], length, take, replicate, vec_len};
 ghost use Rattle.std.specs.Prelude.{true, false, Decides, None, Some, IfOk, IfSome, OnOk, OnErr, IfErr};
 ghost use Rattle.brd_board.specs.declared.event.Event.TheVariants.{Step};
 ghost use Rattle.brd_board.specs.Lease.{lease_of};

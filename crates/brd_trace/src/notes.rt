@@ -167,13 +167,13 @@ pub struct Notes {
     /// By the processor's number.
     pub faults: Vec<Option<LastFault>>,
     /// The processor that handles each line; 0 where none does.
-    pub handlers: [u8; 32],
+    pub handlers: [u8; 160],
     pub recording: Option<Recording>,
 }
 
 impl Notes {
     /// What is known of a board to which nothing has happened.
-    pub(crate) fn new(alloc: Global, board: &Board, handlers: [u8; 32]) -> Result<Notes, NoMemory>
+    pub(crate) fn new(alloc: Global, board: &Board, handlers: [u8; 160]) -> Result<Notes, NoMemory>
         ensures knows { IfOk result (Knows board.now) }
         ensures dated { IfOk result (λ notes. (events : ListOf EventOf) → IsDated board.now events 0 notes) }
         ensures none { IfOk result (λ notes. notes.recording ≡ None) }

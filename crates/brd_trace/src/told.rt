@@ -4,8 +4,8 @@ ghost use Rattle.brd_trace.specs.Noted.{KeepsKnown};
 
 use crate::notes::{Notes, Scene};
 use brd_base::NoMemory;
-use brd_happening::{Answer, CallMade, What};
-use brd_names::{put, put_named};
+use brd_happening::{Answer, CallMade, Rung, What};
+use brd_names::{put, put_called, put_named};
 use brd_seen::{Answered, RET_INT, SaidCall};
 use brd_timeline::MarkKind;
 use std::alloc::Global;
@@ -64,17 +64,34 @@ impl Notes {
     fn say_accepted(&mut self, it: Scene, line: u8) -> Result<Vec<u8>, NoMemory>
         ensures { KeepsKnown self.old self.new }
     {
-        let what = named(it.alloc, "accepts the interrupt of line", u64::from(line))?;
+        let mut what = Vec::new(it.alloc);
+        put(&mut what, "accepts the interrupt of ")?;
+        put_called(it.alloc, &mut what, "line", u16::from(line))?;
         self.with_mark(it, MarkKind::Interrupt, what)
     }
 
-    /// A tick that releases somebody.
+    /// A tick that releases somebody, or at which a time handler is due.
     fn say_tick(&mut self, it: Scene, number: u64) -> Result<Vec<u8>, NoMemory>
         ensures { KeepsKnown self.old self.new }
     {
         self.record_tick(it.position, number)?;
-        let what = named(it.alloc, "tick", number)?;
-        self.with_changes(it, what)
+        let mut what = named(it.alloc, "tick", number)?;
+        self.put_changes(it, &mut what)?;
+        self.put_rung(it, &mut what)?;
+        Ok(what)
+    }
+
+    /// Puts at the end which time handlers are due at a tick.
+    fn put_rung(&mut self, it: Scene, what: &mut Vec<u8>) -> Result<(), NoMemory>
+        ensures { KeepsKnown self.old self.new }
+    {
+        for rung in it.told.rung.as_slice() {
+            let due = due_text(it.alloc, *rung)?;
+            self.mark_raise(it.alloc, it.position, rung.line, due.as_slice())?;
+            put(what, ", ")?;
+            what.extend_from_slice(due.as_slice())?;
+        }
+        Ok(())
     }
 
     /// A line that is raised.
@@ -121,6 +138,17 @@ fn put_answer(
         Answer::Never if call.number() == RET_INT => put(what, ", the interrupt is ended"),
         Answer::Never | Answer::Waits { .. } | Answer::Again => Ok(()),
     }
+}
+
+/// A time handler that is due.
+fn due_text(alloc: Global, rung: Rung) -> Result<Vec<u8>, NoMemory> {
+    let mut what = Vec::new(alloc);
+    put_called(alloc, &mut what, "line", u16::from(rung.line))?;
+    put(&mut what, " is due")?;
+    if rung.pending {
+        put(&mut what, ", and pending already")?;
+    }
+    Ok(what)
 }
 
 /// Some words and a number.

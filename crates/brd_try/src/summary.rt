@@ -61,7 +61,7 @@ fn put_summary(
         instructions: false,
         touching: false,
         shown: false,
-        lines: [0; 32],
+        lines: [0; 160],
     };
     let first = boot.try_copy()?;
     let mut tracer = Tracer::new(alloc, boot, options)?;
@@ -83,9 +83,9 @@ fn put_summary(
     )
 }
 
-/// The calls of MARS and SPIM whose numbers are calls that take an ID here: they print an integer and a string, and
-/// read both.
-const OTHERS: [u32; 4] = [1, 4, 5, 8];
+/// The calls of MARS and SPIM whose numbers are calls that take an ID or a priority here: they print an integer and a
+/// string, read both, and end the program.
+const OTHERS: [u32; 5] = [1, 4, 5, 8, 10];
 
 /// Puts a line at the end, where a call was refused that has another meaning on MARS and SPIM.
 fn put_meant(refused: &[Refused], out: &mut Vec<u8>) -> Result<(), NoMemory> {

@@ -1,13 +1,13 @@
 -- What is counted of a run, while a board plays on.
 use Rattle.std.proofs.Common.{◌≡◌, inl, inr, ℕ, zero, suc, ◌+◌, ◌-◌, ◌<◌, ◌≤◌, ◌^◌, List, [], ◌∷◌, ◌++◌, length, length-take, take, drop, map, replicate, refl, sym, ap, subst, ◌∙◌, arith}
-use Rattle.std.specs.Prelude.{Bool, true, false, ◌==◌, min, if◌then◌else◌, is_some, slice_index_or, slice_set, unwrap_or, Option, None, Some, Result, Ok, Err, OnOk}
+use Rattle.std.specs.Prelude.{Bool, true, false, ◌==◌, ◌&&◌, nat_lt, min, if◌then◌else◌, is_some, slice_index_or, slice_set, unwrap_or, Option, None, Some, Result, Ok, Err, OnOk}
 use Rattle.std.specs.List.{cons_option}
-use Rattle.std.proofs.lemmas.Bool.{cond-true, cond-false, eq-eqb, ne_eqb, false≢true}
+use Rattle.std.proofs.lemmas.Bool.{and_parts, cond-true, cond-false, eq-eqb, ne_eqb, false≢true}
 use Rattle.std.proofs.Math.Seq.{take-add}
 use Rattle.brd_exec.specs.State.{State}
 use Rattle.brd_isa.specs.declared.instruction.Insn.{Insn}
 use Rattle.brd_kernel.specs.declared.processor.InterruptLine.{InterruptLine}
-use Rattle.brd_kernel.specs.Kernel.{line_at, quiet, with_pending}
+use Rattle.brd_kernel.specs.Kernel.{line_at, can_be_raised, quiet, with_pending}
 use Rattle.brd_board.specs.Batch.{AllRun}
 use Rattle.brd_board.specs.declared.event.Event.{Event}
 use Rattle.brd_board.specs.declared.event.Event.TheVariants.{Step, Tick, Raise}
@@ -23,6 +23,7 @@ use Rattle.brd_journal.proofs.StillLemmas.{happens-leaves, raise-told, rests}
 use Rattle.brd_happening.specs.declared.before.Before.{Before}
 use Rattle.brd_happening.specs.declared.found.Found.{Found}
 use Rattle.brd_happening.specs.declared.release.Release.{Release}
+use Rattle.brd_happening.specs.declared.rung.Rung.{Rung}
 use Rattle.brd_happening.specs.declared.happening.{What.What, Why.Why, Happening.Happening}
 use Rattle.brd_happening.specs.declared.happening.What.TheVariants as what
 use Rattle.brd_happening.specs.declared.happening.Why.TheVariants as why
@@ -33,7 +34,7 @@ use Rattle.brd_verdicts.specs.declared.answers.Answered.{Answered}
 use Rattle.brd_verdicts.specs.declared.losses.LostRaises.{LostRaises}
 use Rattle.brd_verdicts.specs.Answers.{answers_in, begun_after, late_answer, own_answer}
 use Rattle.brd_verdicts.specs.Refusals.{grown}
-use Rattle.brd_verdicts.specs.Losses.{lost_if, lost_in, lost_with, more_lost}
+use Rattle.brd_verdicts.specs.Losses.{all_rung, lost_by, lost_if, lost_in, lost_with, more_lost}
 use Rattle.brd_verdicts.specs.Accounts.{accounts_from, accounts_of, accounts_of_run, all_answered, nothing}
 use Rattle.brd_verdicts.specs.Again.{again, lost_after, lost_again}
 
@@ -43,6 +44,7 @@ record Silent (it : Happening) : Type 0 where
   own : own_answer it it.what ≡ None
   begun : (begun : List ℕ) → begun_after it it.what begun ≡ begun
   released : it.released ≡ []
+  rung : it.rung ≡ []
 
 none-answered : (begun : List ℕ) (it : Happening) → Silent it → answers_in begun it ≡ []
 none-answered begun it silent =
@@ -55,10 +57,12 @@ only-lost : (position : ℕ) (it : Happening) (accounts : Accounts) → Silent i
 only-lost position it accounts silent =
     ap (λ (answers : List Answered).
     let after : Accounts = all_answered position answers accounts in
-    record after { begun = begun_after it it.what after.begun; lost = lost_if (lost_in position it.what) after.lost })
+    record after { begun = begun_after it it.what after.begun; lost = lost_by position it after.lost })
     (none-answered accounts.begun it silent)
-    ∙ ap (λ (begun : List ℕ).
-    record accounts { begun = begun; lost = lost_if (lost_in position it.what) accounts.lost }) (silent.begun accounts.begun)
+    ∙ ap (λ (begun : List ℕ). record accounts { begun = begun; lost = lost_by position it accounts.lost })
+    (silent.begun accounts.begun)
+    ∙ ap (λ (rung : List Rung).
+    record accounts { lost = all_rung position rung (lost_if (lost_in position it.what) accounts.lost) }) silent.rung
 
 -- nothing is
 none-counted : (position : ℕ) (it : Happening) (accounts : Accounts) → Silent it → lost_in position it.what ≡ None →
@@ -81,20 +85,21 @@ no_such-begun it (Raise line) begun = refl
 
 quiet-silent : (before : Before) (told : Report) (b : BoardState) → did_nothing told ≡ true →
     Silent (happening_from before told b)
-quiet-silent before report.Off b is = record { own = refl; begun = λ begun. refl; released = refl }
+quiet-silent before report.Off b is = record { own = refl; begun = λ begun. refl; released = refl; rung = refl }
 quiet-silent before report.NoSuch b is = record {
   own = no_such-own (happening_from before report.NoSuch b) before.event;
   begun = no_such-begun (happening_from before report.NoSuch b) before.event;
   released = refl;
+  rung = refl;
 }
-quiet-silent before report.Stopped b is = record { own = refl; begun = λ begun. refl; released = refl }
+quiet-silent before report.Stopped b is = record { own = refl; begun = λ begun. refl; released = refl; rung = refl }
 quiet-silent before (report.Accepted line) b is = absurd (false≢true is)
 quiet-silent before (report.Ran address) b is = absurd (false≢true is)
 quiet-silent before (report.Called address) b is = absurd (false≢true is)
 quiet-silent before (report.Faulted address) b is = absurd (false≢true is)
-quiet-silent before report.Idle b is = record { own = refl; begun = λ begun. refl; released = refl }
+quiet-silent before report.Idle b is = record { own = refl; begun = λ begun. refl; released = refl; rung = refl }
 quiet-silent before report.Ticked b is = absurd (false≢true is)
-quiet-silent before report.TimeOver b is = record { own = refl; begun = λ begun. refl; released = refl }
+quiet-silent before report.TimeOver b is = record { own = refl; begun = λ begun. refl; released = refl; rung = refl }
 quiet-silent before report.Raised b is = absurd (false≢true is)
 
 -- no raise is lost in it
@@ -161,6 +166,7 @@ ran-none position address before None b accounts is =
       own = ap (own_answer it) none;
       begun = λ begun. ap (λ (w : What). begun_after it w begun) none;
       released = refl;
+      rung = refl;
     }) (ap (lost_in position) none)
 ran-none position address before (Some found) b accounts is =
     let it : Happening = happening_from before (report.Ran address) b in
@@ -170,6 +176,7 @@ ran-none position address before (Some found) b accounts is =
       own = ap (own_answer it) done ∙ done-own it found.insn _ found b;
       begun = λ begun. ap (λ (w : What). begun_after it w begun) done ∙ done-begun it found.insn _ found b begun;
       released = refl;
+      rung = refl;
     }) (ap (lost_in position) done ∙ done-lost position found.insn _ found b)
 
 ran-step : (position cpu address : ℕ) (b : BoardState) (told : Report) (accounts : Accounts) →
@@ -226,9 +233,9 @@ seen-by false false b line = refl
 
 seen-raise : (b : BoardState) (line : ℕ) →
     (happening_of b (Raise line)).what
-    ≡ raise_seen b.kernel.off (is_some (line_at b.kernel line).handler) (line_at b.kernel line).pending line
+    ≡ raise_seen b.kernel.off (can_be_raised b.kernel line) (line_at b.kernel line).pending line
 unfolding happens
-seen-raise b line = seen-by b.kernel.off (is_some (line_at b.kernel line).handler) b line
+seen-raise b line = seen-by b.kernel.off (can_be_raised b.kernel line) b line
 
 set-there : (lines : List InterruptLine) (n : ℕ) (line : InterruptLine) →
     is_some (slice_index_or lines n (quiet None)).handler ≡ true →
@@ -240,29 +247,29 @@ set-there (one ∷ lines) (suc n) line handled = set-there lines n line handled
 -- the board after a raise: on or off as before, and the line has a handler as before, and is pending if one was raised
 record Raised (b next : BoardState) (line : ℕ) : Type 0 where
   off : next.kernel.off ≡ b.kernel.off
-  handled : is_some (line_at next.kernel line).handler ≡ is_some (line_at b.kernel line).handler
+  handled : can_be_raised next.kernel line ≡ can_be_raised b.kernel line
   waits :
-      b.kernel.off ≡ false → is_some (line_at b.kernel line).handler ≡ true →
+      b.kernel.off ≡ false → can_be_raised b.kernel line ≡ true →
       (line_at next.kernel line).pending ≡ true
 
 raised-by : (off handled : Bool) (b : BoardState) (line : ℕ) → b.kernel.off ≡ off →
-    is_some (line_at b.kernel line).handler ≡ handled → Raised b (raise_done off handled b line).board line
+    can_be_raised b.kernel line ≡ handled → Raised b (raise_done off handled b line).board line
 raised-by true handled b line off some =
     record { off = refl; handled = refl; waits = λ on _. absurd (false≢true (sym on ∙ off)) }
 raised-by false false b line on none =
     record { off = refl; handled = refl; waits = λ _ some. absurd (false≢true (sym none ∙ some)) }
 raised-by false true b line on some =
     let there : line_at (with_pending b.kernel line) line ≡ pending (line_at b.kernel line) =
-    set-there b.kernel.lines line (pending (line_at b.kernel line)) some in
+    set-there b.kernel.lines line (pending (line_at b.kernel line)) (and_parts (nat_lt line 32) (is_some (line_at b.kernel line).handler) some).1 in
     record {
       off = refl;
-      handled = ap (λ (it : InterruptLine). is_some it.handler) there;
+      handled = ap (λ (it : InterruptLine). nat_lt line 32 && is_some it.handler) there;
       waits = λ _ _. ap (λ (it : InterruptLine). it.pending) there;
     }
 
 is-raised : (b : BoardState) (line : ℕ) → Raised b (happens b (Raise line)).board line
 unfolding happens
-is-raised b line = raised-by b.kernel.off (is_some (line_at b.kernel line).handler) b line refl refl
+is-raised b line = raised-by b.kernel.off (can_be_raised b.kernel line) b line refl refl
 
 -- what it is then
 abbrev again_what : What → What
@@ -284,10 +291,10 @@ raised-again b line =
     let next : BoardState = (happens b (Raise line)).board in
     let it = is-raised b line in
     let off = b.kernel.off in
-    let handled = is_some (line_at b.kernel line).handler in
+    let handled = can_be_raised b.kernel line in
     let waits = (line_at b.kernel line).pending in
     seen-raise next line
-    ∙ ap (λ (o : Bool). raise_seen o (is_some (line_at next.kernel line).handler) (line_at next.kernel line).pending line) it.off
+    ∙ ap (λ (o : Bool). raise_seen o (can_be_raised next.kernel line) (line_at next.kernel line).pending line) it.off
     ∙ ap (λ (h : Bool). raise_seen off h (line_at next.kernel line).pending line) it.handled
     ∙ seen-again off handled waits (line_at next.kernel line).pending line it.waits
     ∙ ap again_what (sym (seen-raise b line))
@@ -312,6 +319,7 @@ raise-silent b line =
       own = was-own (happening_from before report.Raised next) before.pending line;
       begun = was-begun (happening_from before report.Raised next) before.pending line;
       released = refl;
+      rung = refl;
     })
     (quiet-silent before report.NoSuch next refl)
 

@@ -1,15 +1,16 @@
 -- Of no task is something so; and a board whose processors all do nothing.
 use Rattle.std.proofs.Common.{◌≡◌, inl, inr, ℕ, ◌+◌, ◌<◌, ◌≤◌, sym, ap, subst, ◌∙◌, arith}
-use Rattle.std.specs.Prelude.{Bool, true, false, Decides, IfOk, Option, Result, Ok, Err}
+use Rattle.std.specs.Prelude.{◌≢◌, Bool, true, false, Decides, IfOk, Option, None, Result, Ok, Err}
 use Rattle.brd_base.specs.declared.no_memory.NoMemory.{NoMemory}
 use Rattle.std.proofs.lemmas.Bool.{cases_lt}
 use Rattle.brd_tasks.specs.declared.task.TaskView.{TaskView}
+use Rattle.brd_kernel.specs.Kernel.{timer_due}
 use Rattle.brd_board.specs.declared.event.Event.TheVariants.{Step}
 use Rattle.brd_board.specs.declared.event.Report.{Report}
 use Rattle.brd_board.specs.Board.{BoardState, Happened, happens, task_of}
 use Rattle.brd_journal.specs.Still.{did_nothing}
 use Rattle.brd_journal.proofs.StillLemmas.{happens-leaves}
-use Rattle.brd_verdicts.specs.Deadlock.{GoesOn, HasTask, IsDeadlocked, NoStepDoes, Waits}
+use Rattle.brd_verdicts.specs.Deadlock.{GoesOn, HasHandlerDue, HasTask, IsDeadlocked, NoStepDoes, Waits}
 
 pub none-more : (Is : Option TaskView → Type 0) (board : BoardState) (i : ℕ) →
     ((id : ℕ) → 1 ≤ id → id < i → Is (task_of board id) → ⊥) → (Is (task_of board i) → ⊥) →
@@ -19,6 +20,16 @@ none-more Is board i none other id some few is = elim (cases_lt id i) [
   | inr not ↦
       let same : id ≡ i = omega (arith, not, few) in
       other (subst (λ (n : ℕ). Is (task_of board n)) same is)
+]
+
+-- one more place of time handlers
+pub none-due : (board : BoardState) (i : ℕ) → ((place : ℕ) → place < i → timer_due board.kernel place ≢ None → ⊥) →
+    (timer_due board.kernel i ≢ None → ⊥) → (place : ℕ) → place < i + 1 → timer_due board.kernel place ≢ None → ⊥
+none-due board i none other place few is = elim (cases_lt place i) [
+  | inl before ↦ none place before is
+  | inr not ↦
+      let same : place ≡ i = omega (arith, not, few) in
+      other (subst (λ (n : ℕ). timer_due board.kernel n ≢ None) same is)
 ]
 
 -- one more processor
@@ -50,10 +61,10 @@ copy-stays board copy next told cpu same is nothing =
 
 -- what is known of a board's processors decides
 pub deadlocked-by : (board : BoardState) (r : Result Bool NoMemory) → board.kernel.off ≡ false → HasTask Waits board →
-    (HasTask GoesOn board → ⊥) →
+    (HasTask GoesOn board → ⊥) → (HasHandlerDue board → ⊥) →
     IfOk r (λ none. Decides none (NoStepDoes board)) → IfOk r (λ answer. Decides answer (IsDeadlocked board))
-deadlocked-by board (Ok none) on waits goes decides = (
-  λ is. record { on = on; waits = waits; none = goes; still = decides.0 is },
+deadlocked-by board (Ok none) on waits goes untimed decides = (
+  λ is. record { on = on; waits = waits; none = goes; untimed = untimed; still = decides.0 is },
   λ deadlocked. decides.1 deadlocked.still,
 )
-deadlocked-by board (Err e) on waits goes decides = tt
+deadlocked-by board (Err e) on waits goes untimed decides = tt

@@ -10,7 +10,7 @@ use Rattle.brd_verdicts.specs.declared.answers.Answered.{Answered}
 use Rattle.brd_verdicts.specs.Answers.{answers_in, begun_after, call_in, is_error}
 use Rattle.brd_verdicts.specs.Units.{units_by}
 use Rattle.brd_verdicts.specs.Refusals.{counted, refused_by}
-use Rattle.brd_verdicts.specs.Losses.{lost_if, lost_in}
+use Rattle.brd_verdicts.specs.Losses.{lost_by}
 
 -- nothing is counted yet
 abbrev pub nothing : Accounts
@@ -39,7 +39,7 @@ accounts_of position told accounts =
     let after : Accounts = all_answered position (answers_in accounts.begun told) accounts in
     record after {
       begun = begun_after told told.what after.begun;
-      lost = lost_if (lost_in position told.what) after.lost;
+      lost = lost_by position told after.lost;
     }
 
 -- of a list of events, from a board at a position on

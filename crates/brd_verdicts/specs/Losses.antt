@@ -1,8 +1,9 @@
 -- Raises of interrupt lines that had no effect, counted by line.
-use Rattle.std.specs.Prelude.{ℕ, ◌==◌, true, false, List, Option, None, Some}
-use Rattle.brd_happening.specs.declared.happening.What.{What}
+use Rattle.std.specs.Prelude.{ℕ, ◌==◌, true, false, if◌then◌else◌, List, [], ◌∷◌, Option, None, Some}
+use Rattle.brd_happening.specs.declared.happening.{What.What, Happening.Happening}
 use Rattle.brd_happening.specs.declared.happening.What.TheVariants as what
 use Rattle.brd_happening.specs.declared.happening.Why.TheVariants as why
+use Rattle.brd_happening.specs.declared.rung.Rung.{Rung}
 use Rattle.brd_verdicts.specs.declared.losses.LostRaises.{LostRaises}
 use Rattle.brd_verdicts.specs.Changed.{changed}
 use Rattle.brd_verdicts.specs.Refusals.{grown}
@@ -24,3 +25,18 @@ lost_with new olds = changed (λ old. old.line == new.line) (more_lost new.count
 abbrev pub lost_if : Option LostRaises → List LostRaises → List LostRaises
 lost_if None olds = olds
 lost_if (Some new) olds = lost_with new olds
+
+-- a line of a time handler that the tick of a position raised: in vain if it was pending
+
+abbrev pub rung_lost : ℕ → Rung → Option LostRaises
+rung_lost position it =
+    if it.pending then Some (record { line = it.line; pending = true; position = position; count = 1 }) else None
+
+-- some, one after the other
+abbrev pub all_rung : ℕ → List Rung → List LostRaises → List LostRaises
+all_rung position [] olds = olds
+all_rung position (it ∷ its) olds = all_rung position its (lost_if (rung_lost position it) olds)
+
+-- all of an event of a position
+abbrev pub lost_by : ℕ → Happening → List LostRaises → List LostRaises
+lost_by position told olds = all_rung position told.rung (lost_if (lost_in position told.what) olds)

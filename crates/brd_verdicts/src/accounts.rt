@@ -6,7 +6,7 @@ ghost use Rattle.brd_verdicts.specs.Accounts.{accounts_of, all_answered, answere
 ghost use Rattle.brd_verdicts.specs.Again.{again};
 
 use crate::answers::{Answered, answers_in, call_in, is_error, keep_begun};
-use crate::losses::{Losses, lost_again, lost_in};
+use crate::losses::{Losses, lost_again};
 use crate::refusals::{Refusals, refused_by};
 use crate::units::Units;
 use brd_base::NoMemory;
@@ -51,7 +51,7 @@ impl Accounts {
         let answers = answers_in(alloc, &self.begun, told)?;
         self.count_answers(alloc, position, answers.as_slice())?;
         keep_begun(&mut self.begun, told, told.what);
-        self.lost.count(lost_in(position, told.what))
+        self.lost.count_all(position, told)
     }
 
     /// Counts the same event so many times more, from a position on, after one in which this happened: all of these do

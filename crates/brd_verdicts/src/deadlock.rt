@@ -1,8 +1,9 @@
 //! Whether nothing that is under way on a board ends a wait.
 
-ghost use Rattle.std.specs.Prelude.{Decides, IfOk};
+ghost use Rattle.std.specs.Prelude.{◌≢◌, Decides, IfOk, None};
+ghost use Rattle.brd_kernel.specs.Kernel.{timer_due};
 ghost use Rattle.brd_board.specs.Board.{task_of};
-ghost use Rattle.brd_verdicts.specs.Deadlock.{GoesOn, HasTask, IsDeadlocked, NoStepDoes, Waits};
+ghost use Rattle.brd_verdicts.specs.Deadlock.{GoesOn, HasHandlerDue, HasTask, IsDeadlocked, NoStepDoes, Waits};
 
 use crate::did_nothing::did_nothing;
 use brd_base::NoMemory;
@@ -12,7 +13,7 @@ use brd_board::{Board, Event, TaskId, TaskState};
 pub fn is_deadlocked(board: &Board) -> Result<bool, NoMemory>
     ensures { IfOk result (λ answer. Decides answer (IsDeadlocked board.now)) }
 {
-    if board.is_off() || !some_waits(board) || some_goes_on(board) {
+    if board.is_off() || !some_waits(board) || some_goes_on(board) || some_handler_is_due(board) {
         return Ok(false);
     }
     no_step_does(board)
@@ -60,6 +61,25 @@ fn goes_on(board: &Board, id: TaskId) -> bool
         Some(task) => task.state == TaskState::Ready || task.due.is_some(),
         None => false,
     }
+}
+
+/// Whether some time handler is due at a tick.
+fn some_handler_is_due(board: &Board) -> bool
+    ensures { Decides result (HasHandlerDue board.now) }
+{
+    for place in 0..128u8 {
+        if is_due(board, place) {
+            return true;
+        }
+    }
+    false
+}
+
+/// Whether the time handler at a place is due at a tick.
+fn is_due(board: &Board, place: u8) -> bool
+    ensures { Decides result (timer_due board.now.kernel place ≢ None) }
+{
+    board.timer_due(place).is_some()
 }
 
 /// Whether no step of a processor does anything.

@@ -2,12 +2,20 @@
 
 ghost use Rattle.std.specs.Prelude.{◌≡◌, ◌==◌, [], OnOk};
 ghost use Rattle.std.specs.List.{position};
-ghost use Rattle.brd_verdicts.specs.Losses.{lost_if, lost_in, lost_with, more_lost};
+ghost use Rattle.brd_verdicts.specs.Losses.{
+  all_rung,
+  lost_by,
+  lost_if,
+  lost_in,
+  lost_with,
+  more_lost,
+  rung_lost,
+};
 ghost use Rattle.brd_verdicts.specs.Again.{lost_again};
 
 use crate::changed::{old_at, put_at};
 use brd_base::NoMemory;
-use brd_happening::{What, Why};
+use brd_happening::{Happening, Rung, What, Why};
 use std::alloc::Global;
 use std::marker::Model;
 
@@ -56,6 +64,24 @@ impl Losses {
         self.lines.as_slice()
     }
 
+    /// Counts the raises of the event of a position that had no effect.
+    pub(crate) fn count_all(&mut self, position: u64, told: &Happening) -> Result<(), NoMemory>
+        ensures { OnOk result (self.new ≡ lost_by position told.now self.old) }
+    {
+        self.count(lost_in(position, told.what))?;
+        self.count_rung(position, told.rung.as_slice())
+    }
+
+    /// Counts the lines that the tick of a position raised in vain.
+    fn count_rung(&mut self, position: u64, rung: &[Rung]) -> Result<(), NoMemory>
+        ensures { OnOk result (self.new ≡ all_rung position rung.now self.old) }
+    {
+        for it in rung {
+            self.count(rung_lost(position, *it))?;
+        }
+        Ok(())
+    }
+
     /// Counts raises, if there are some.
     pub(crate) fn count(&mut self, new: Option<LostRaises>) -> Result<(), NoMemory>
         ensures { OnOk result (self.new ≡ lost_if new self.old) }
@@ -94,8 +120,23 @@ fn place_of(lines: &[LostRaises], new: LostRaises) -> Option<usize>
     lines.iter().position(|old| old.line == new.line)
 }
 
+/// The raise of a line by the tick of a position, if it had no effect.
+fn rung_lost(position: u64, it: Rung) -> Option<LostRaises>
+    ensures { result ≡ rung_lost position it }
+{
+    if !it.pending {
+        return None;
+    }
+    Some(LostRaises {
+        line: it.line,
+        pending: true,
+        position,
+        count: 1,
+    })
+}
+
 /// The raise of an event of a position that had no effect.
-pub(crate) fn lost_in(position: u64, what: What) -> Option<LostRaises>
+fn lost_in(position: u64, what: What) -> Option<LostRaises>
     ensures { result ≡ lost_in position what }
 {
     match what {

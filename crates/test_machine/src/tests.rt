@@ -10,3 +10,4 @@ mod ready;
 mod shapes;
 mod sysgate;
 mod tasks;
+mod time_handlers;

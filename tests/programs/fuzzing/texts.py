@@ -89,6 +89,9 @@ class Texts:
             f"{self.among('NULL', 'NULL', '0x80004000', start)}}});",
             f"CRE_MBX({number}, {{{self.attributes('TA_TPRI', 'TA_MFIFO', 'TA_MPRI')}, {random.randrange(1, 17)}, "
             f"NULL}});",
+            f"CRE_CYC({number % 64 + 1}, {{{self.attributes('TA_STA', 'TA_PHS')}, {number}, {start}, "
+            f"{self.among(1, 2, 5, '0x7fffffff')}, {self.among(0, 1, 7)}}});",
+            f"CRE_ALM({number % 64 + 1}, {{{self.attributes('TA_ASM')}, {number}, {start}}});",
             f"DEF_INH({random.randrange(32)}, {{TA_HLNG, {start}}});")
 
     def configuration(self):

@@ -1,6 +1,6 @@
 -- Each event is the run of its moves. So an SC finds a link exactly where its processor has a reservation.
 use Rattle.std.proofs.Common.{◌≡◌, ◌⊎◌, inl, inr, ℕ, zero, suc, List, [], ◌∷◌, refl, sym, ap, subst, subst₂, ◌∙◌}
-use Rattle.std.specs.Prelude.{Bool, true, false, ◌==◌, nat_lt, if◌then◌else◌, MatchBool, Option, None, Some, is_some, unwrap_or, Result, Ok, Err, is_ok, slice_index_or, slice_set}
+use Rattle.std.specs.Prelude.{Bool, true, false, ◌==◌, nat_lt, if◌then◌else◌, MatchBool, Option, None, Some, unwrap_or, Result, Ok, Err, is_ok, slice_index_or, slice_set}
 use Rattle.std.specs.Option.{option_map}
 use Rattle.std.proofs.lemmas.Bool.{false≢true}
 use Rattle.brd_isa.specs.declared.instruction.Insn.{Insn}
@@ -27,7 +27,7 @@ use Rattle.brd_config.specs.Configuration.{Configuration}
 use Rattle.brd_kernel.specs.declared.processor.Processor.{Processor}
 use Rattle.brd_kernel.specs.declared.processor.Executor.{Executor}
 use Rattle.brd_kernel.specs.declared.processor.Executor.TheVariants as executor
-use Rattle.brd_kernel.specs.Kernel.{KernelState, processor_at, executor_on, context_of, with_context_of, context_on, accepted_line, deliverable, line_at}
+use Rattle.brd_kernel.specs.Kernel.{KernelState, processor_at, executor_on, context_of, with_context_of, context_on, accepted_line, deliverable, can_be_raised}
 use Rattle.brd_board.specs.Executing.{executed_by, executed_in}
 use Rattle.brd_kernel.specs.Waits.{ticked_on}
 use Rattle.brd_kernel.specs.Dispatch.{dispatched, changed_processors}
@@ -130,7 +130,7 @@ walk-on b (Step cpu) = walk-stepping b cpu (processor_at b.kernel cpu)
 walk-on b Tick =
     let k : KernelState = ticked_on b.kernel (advanced b.kernel.time) in
     walk-either (nat_lt b.kernel.time.count last_count) b _ _ _ [] (ends-run b.memory b.links (changed_processors k (dispatched k))) (refl, refl)
-walk-on b (Raise line) = walk-still (is_some (line_at b.kernel line).handler) b _ _ (refl, refl) (refl, refl)
+walk-on b (Raise line) = walk-still (can_be_raised b.kernel line) b _ _ (refl, refl) (refl, refl)
 
 event-run : (b : BoardState) (event : Event) → Walks b (happens b event) (moves b event)
 unfolding happens moves

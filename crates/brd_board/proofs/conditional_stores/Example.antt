@@ -32,6 +32,7 @@ kernel = record {
   standard = false;
   clock = 0;
   time = record { count = 0; dues = [] };
+  timers = [];
   tasks = record { rows = []; contexts = starts_at 0 ∷ starts_at base ∷ starts_at (base + 12) ∷ []; ready = [] };
   semaphores = [];
   flags = [];

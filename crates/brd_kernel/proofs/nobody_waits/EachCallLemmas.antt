@@ -14,7 +14,7 @@ use Rattle.brd_objects.specs.DataQueues.{sent, outcome, outcome_in, forced, forc
 use Rattle.brd_kernel.specs.declared.processor.Processor.{Processor}
 use Rattle.brd_kernel.specs.declared.call.Call.{Call}
 use Rattle.brd_kernel.specs.Answer.{e_ok}
-use Rattle.brd_kernel.specs.Kernel.{KernelState, with_tasks, processor_at, unmarked}
+use Rattle.brd_kernel.specs.Kernel.{KernelState, processor_at, unmarked}
 use Rattle.brd_kernel.specs.Waits.{reason_in, quits_in}
 use Rattle.brd_kernel.specs.Services.{is_sleep, is_asleep, unmarked_on, handler_ended, serve_of, caller_on, callers_priority, released_with_second, message_of}
 use Rattle.brd_kernel.specs.Waiting.{SleeperIsKept, EachIsKept}
@@ -140,6 +140,7 @@ each-law k cpu caller was =
       writes = λ word. others-kept k (record k { console = k.console ++ word % 2 ^ 8 ∷ [] }) refl refl refl refl refl refl was.sleepers was;
       ends_all = others-kept k (record k { off = true }) refl refl refl refl refl refl was.sleepers was;
       sets_clock = λ clock. others-kept k (record k { clock = clock }) refl refl refl refl refl refl was.sleepers was;
+      sets_timers = λ timers. others-kept k (record k { timers = timers }) refl refl refl refl refl refl was.sleepers was;
     }
 
 pub serve-kept : (k : KernelState) (cpu : ℕ) (c : Call) → EachIsKept k → EachIsKept (serve_of k cpu c).kernel

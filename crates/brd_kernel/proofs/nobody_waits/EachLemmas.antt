@@ -22,9 +22,10 @@ use Rattle.brd_kernel.specs.Answer.{e_ok}
 use Rattle.brd_kernel.specs.Kernel.{KernelState, with_tasks, with_processor, processor_at, unmarked}
 use Rattle.brd_kernel.specs.Waits.{Change, changed_of, changed_for, leaving, moving, can_wait, with_wait, released_in, reason_of, unlisted_from, unlisted, broken_off, ended_in, reordered_in, answer_by, timed_out, all_timed_out, ticked_on, faulted_task, faulted_in, ended_by_fault, with_released, given_in, all_given_in, quits_in, prioritized}
 use Rattle.brd_kernel.specs.Services as table
-use Rattle.brd_kernel.specs.Services.{is_sleep, or_waits, with_all_released_in, with_satisfied_of, handed_over}
+use Rattle.brd_kernel.specs.Services.{is_sleep, with_all_released_in, with_satisfied_of, handed_over}
 use Rattle.brd_kernel.specs.Waiting.{SemaphoreIsKept, FlagIsKept, QueueIsKept, EachIsKept, MutexIsKept, PoolIsKept, MailboxIsKept}
 use Rattle.brd_kernel.proofs.who_waits.ListLemmas.{either}
+use Rattle.brd_kernel.proofs.RingLemmas.{Outlasts, rung-keeps}
 use Rattle.brd_kernel.proofs.nobody_waits.TableLemmas.{one-keeps, all-keep, changed-twice, changed-there}
 use Rattle.brd_kernel.proofs.nobody_waits.ObjectLemmas.{semaphore-left, semaphore-reordered, flag-left, flag-reordered, set-kept, queue-left, queue-reordered, mutex-given, mutex-left, mutex-reordered, pool-left, pool-reordered, mailbox-left, mailbox-reordered}
 use Rattle.brd_kernel.proofs.nobody_waits.SleeperLemmas.{AreKept}
@@ -314,11 +315,16 @@ all-timed : (k : KernelState) (ids : List ℕ) → EachIsKept k → EachIsKept (
 all-timed k [] was = was
 all-timed k (id ∷ ids) was = all-timed (timed_out k id) ids (broken-kept k id (answer_by (reason_of k id)) was)
 
+rings-kept : Outlasts EachIsKept
+rings-kept k timers lines was = others-kept k (record k { timers = timers; lines = lines }) refl refl refl refl refl refl was.sleepers was
+
 pub ticked-kept : (k : KernelState) → EachIsKept k → EachIsKept (ticked_on k (advanced k.time))
 ticked-kept k was =
     let time : Time = advanced k.time in
-    prioritized-kept (all_timed_out (record k { time = time }) (due_from time 0))
-    (all-timed (record k { time = time }) (due_from time 0) (others-kept k (record k { time = time }) refl refl refl refl refl refl was.sleepers was))
+    let ended : KernelState = all_timed_out (record k { time = time }) (due_from time 0) in
+    rung-keeps EachIsKept (prioritized ended) rings-kept
+    (prioritized-kept ended
+    (all-timed (record k { time = time }) (due_from time 0) (others-kept k (record k { time = time }) refl refl refl refl refl refl was.sleepers was)))
 
 -- Exceptions.
 

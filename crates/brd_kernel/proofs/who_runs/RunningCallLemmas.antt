@@ -35,6 +35,7 @@ use Rattle.brd_kernel.proofs.WaitLemmas.{unlisted-only, reordered-only}
 use Rattle.brd_kernel.proofs.WalkLemmas.{IsOfBoard, Fact, Unheld, OfTask, HoldsNone, May, Law, lacked, awaiting, serve-leaves}
 use Rattle.brd_kernel.proofs.SameLemmas.{same-entered, same-all_given}
 use Rattle.brd_kernel.proofs.who_runs.ReadyLemmas.{KeepsReady, activated-keeps, ended-others, wakeup-keeps, cleared-keeps, blocked-active, suspended-active, through-others, resumed-keeps, released-keeps, priority-keeps, migrated-others, turned-keeps}
+use Rattle.brd_kernel.proofs.RingLemmas.{Outlasts, rung-keeps}
 use Rattle.brd_kernel.proofs.who_runs.RunningLemmas.{ready-hold, held_in, HoldsReady, IsntHeld, runs-hold, tasks-run, parts-run, marked-runs, others-hold, free-isnt_held, exit-holds, number-there}
 use Rattle.brd_objects.specs.Mutexes.{owned, given, next_owner_in}
 use Rattle.brd_objects.specs.Pools.{PoolState, handed_out, given_back, next_holder}
@@ -139,11 +140,16 @@ holding-settles = record {
 prioritized-holds : (k : KernelState) → HoldsReady k → HoldsReady (prioritized k)
 prioritized-holds k was = all-prioritized HoldsReady k holding-settles was
 
+rings-run : Outlasts IsRunning
+rings-run k timers lines was = parts-run k (record k { timers = timers; lines = lines }) refl refl was
+
 pub ticked-runs : (k : KernelState) → IsRunning k → IsRunning (ticked_on k (advanced k.time))
 ticked-runs k was =
     let time : Time = advanced k.time in
-    all-prioritized IsRunning (all_timed_out (record k { time = time }) (due_from time 0)) running-settles
-    (all-timed-run (record k { time = time }) (due_from time 0) (parts-run k (record k { time = time }) refl refl was))
+    let ended : KernelState = all_timed_out (record k { time = time }) (due_from time 0) in
+    rung-keeps IsRunning (prioritized ended) rings-run
+    (all-prioritized IsRunning ended running-settles
+    (all-timed-run (record k { time = time }) (due_from time 0) (parts-run k (record k { time = time }) refl refl was)))
 
 -- Interrupts.
 
@@ -386,6 +392,7 @@ holds-law k cpu p found was =
       writes = λ word. parts-hold k (record k { console = k.console ++ word % 2 ^ 8 ∷ [] }) refl refl was;
       ends_all = parts-hold k (record k { off = true }) refl refl was;
       sets_clock = λ clock. parts-hold k (record k { clock = clock }) refl refl was;
+      sets_timers = λ timers. parts-hold k (record k { timers = timers }) refl refl was;
     }
 
 -- a call that the gate lets through

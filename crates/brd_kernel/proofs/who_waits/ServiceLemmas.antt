@@ -21,11 +21,12 @@ use Rattle.brd_kernel.specs.declared.processor.Executor.{Executor}
 use Rattle.brd_kernel.specs.declared.processor.Executor.TheVariants as executor
 use Rattle.brd_kernel.specs.Dispatch.{dispatched}
 use Rattle.brd_kernel.specs.Kernel.{KernelState, with_tasks, processor_at, unmarked, with_context_of, with_pending, handles, accepted_line}
-use Rattle.brd_kernel.specs.Waits.{reason_of, answer_by, timed_out, all_timed_out, ticked_on, ticked, faulted_task, faulted_in, ended_by_fault, with_released, all_given_in, quits_in}
+use Rattle.brd_kernel.specs.Waits.{reason_of, answer_by, timed_out, all_timed_out, prioritized, ticked_on, ticked, faulted_task, faulted_in, ended_by_fault, all_given_in, quits_in}
 use Rattle.brd_kernel.specs.Services as table
-use Rattle.brd_kernel.specs.Services.{named, unmarked_on, handler_ended, serve_by, serve_of, caller_on, or_waits, callers_priority, with_all_released_in, with_satisfied_of, handed_over, flag_got, queue_sent, queue_received}
+use Rattle.brd_kernel.specs.Services.{unmarked_on, handler_ended, serve_of, caller_on, callers_priority}
 use Rattle.brd_kernel.specs.Waiting.{standing_for, WaitsAreKept}
 use Rattle.brd_kernel.proofs.who_waits.ListLemmas.{either}
+use Rattle.brd_kernel.proofs.RingLemmas.{Outlasts, rung-keeps}
 use Rattle.brd_kernel.proofs.WalkLemmas.{Anything, Law, lacked, awaiting, serve-always}
 use Rattle.brd_kernel.proofs.nobody_waits.SleeperLemmas.{AreKept}
 use Rattle.brd_kernel.proofs.nobody_waits.EachLemmas.{others-kept, tasks-kept, ticked-kept, fault-kept}
@@ -104,6 +105,7 @@ stands-law k cpu caller was = record {
   writes = λ word. parts-keep k (record k { console = k.console ++ word % 2 ^ 8 ∷ [] }) refl refl refl refl refl refl refl refl was;
   ends_all = parts-keep k (record k { off = true }) refl refl refl refl refl refl refl refl was;
   sets_clock = λ clock. parts-keep k (record k { clock = clock }) refl refl refl refl refl refl refl refl was;
+  sets_timers = λ timers. parts-keep k (record k { timers = timers }) refl refl refl refl refl refl refl refl was;
 }
 
 pub serve-keeps : (k : KernelState) (cpu : ℕ) (c : Call) → WaitsAreKept k → WaitsAreKept (serve_of k cpu c).kernel
@@ -124,13 +126,18 @@ count-keeps k time same was =
     by-lists [] k.tasks time (standing_for k) (standing_for new) (lists-by k new refl refl refl refl refl refl)
     (by-count [] k.tasks k.time time (standing_for k) same was)
 
+rings-keep : Outlasts (StandsIn [])
+rings-keep k timers lines was = parts-keep k (record k { timers = timers; lines = lines }) refl refl refl refl refl refl refl refl was
+
 pub ticked-keeps : (k : KernelState) → WaitsAreKept k → WaitsAreKept (ticked_on k (advanced k.time))
 ticked-keeps k was =
     let time : Time = advanced k.time in
+    let ended : KernelState = all_timed_out (record k { time = time }) (due_from time 0) in
     kept (ticked_on k time)
-    (all-prioritized (StandsIn []) (all_timed_out (record k { time = time }) (due_from time 0)) stands-settles
+    (rung-keeps (StandsIn []) (prioritized ended) rings-keep
+    (all-prioritized (StandsIn []) ended stands-settles
     (all-timed-keep (record k { time = time }) (due_from time 0)
-    (count-keeps k time (either (λ (t : Time). t.dues ≡ k.time.dues) (nat_lt k.time.count last_count) _ k.time refl refl) (stands k was))))
+    (count-keeps k time (either (λ (t : Time). t.dues ≡ k.time.dues) (nat_lt k.time.count last_count) _ k.time refl refl) (stands k was)))))
     (ticked-kept k was.each)
 
 pub tick-keeps : (k : KernelState) → WaitsAreKept k → WaitsAreKept (ticked k)

@@ -1,11 +1,11 @@
 //! Interrupts: a line is raised, and a processor accepts the lowest that is pending for it.
 
-ghost use Rattle.std.specs.Prelude.{◌≡◌, ◌<◌, IfSome, is_some};
+ghost use Rattle.std.specs.Prelude.{◌≡◌, ◌<◌, IfSome, length};
 ghost use Rattle.brd_tasks.specs.Ready.{IsProcessor};
-ghost use Rattle.brd_kernel.specs.Kernel.{deliverable, raised, line_at, accepted, accepted_line};
+ghost use Rattle.brd_kernel.specs.Kernel.{deliverable, can_be_raised, raised, line_at, accepted, accepted_line};
 
 use super::Kernel;
-use crate::lines::{are_quiet, entry_of, first_pending};
+use crate::lines::{FIRST_TIMER, are_quiet, entry_of, first_pending};
 use crate::processor::Processor;
 
 impl Kernel {
@@ -13,7 +13,7 @@ impl Kernel {
     #[tactic(auto, using(crate::proofs::LineLemmas::none_pending))]
     pub fn deliverable(&self, cpu: u8) -> Option<u8>
         ensures is { result ≡ deliverable self.now cpu }
-        ensures within { IfSome result (λ line. (line < 32) × IsProcessor cpu) }
+        ensures within { IfSome result (λ line. (line < length self.now.lines) × IsProcessor cpu) }
     {
         if !self.common.pending {
             return None;
@@ -23,9 +23,10 @@ impl Kernel {
 
     /// The same, by the lines.
     #[inline(never)]
+    #[tactic(auto, using(crate::proofs::LineLemmas::few_lines))]
     fn first_deliverable(&self, cpu: u8) -> Option<u8>
         ensures is { result ≡ deliverable self.now cpu }
-        ensures within { IfSome result (λ line. (line < 32) × IsProcessor cpu) }
+        ensures within { IfSome result (λ line. (line < length self.now.lines) × IsProcessor cpu) }
     {
         let processor = self.processor(cpu)?;
         if processor.handling.is_some() || processor.locked || processor.stopped {
@@ -34,12 +35,13 @@ impl Kernel {
         first_pending(self.common.lines.as_slice(), cpu)
     }
 
-    /// Raises an interrupt. Answers whether its line has a handler; if not, nothing changes.
+    /// Raises an interrupt from outside. Answers whether its line is one of the lowest 32 and has a handler; if not,
+    /// nothing changes.
     pub fn raise(&mut self, line: u8) -> bool
         ensures is { self.new ≡ raised self.old line }
-        ensures there { result ≡ is_some (line_at self.old line).handler }
+        ensures there { result ≡ can_be_raised self.old line }
     {
-        if (line as usize) >= self.common.lines.len() {
+        if line >= FIRST_TIMER || (line as usize) >= self.common.lines.len() {
             return false;
         }
         if self.common.lines[line as usize].handler.is_none() {
@@ -74,7 +76,7 @@ impl Kernel {
     /// A processor begins to handle the interrupt of a line.
     #[inline(never)]
     fn handle(&mut self, cpu: u8, line: u8)
-        requires { line < 32 }
+        requires { line < length self.old.lines }
         ensures { self.new ≡ accepted_line self.old cpu line }
     {
         let Some(processor) = self.processor(cpu) else {

@@ -1,6 +1,6 @@
 //! Mutexes: the service calls, each as its row of the table says, and the priorities that tasks have by them.
 
-ghost use Rattle.std.specs.Prelude.{◌≡◌, ◌<◌, ◌&&◌, length};
+ghost use Rattle.std.specs.Prelude.{◌≡◌, ◌<◌, ◌&&◌};
 ghost use Rattle.brd_tasks.specs.Tasks.{task_at};
 ghost use Rattle.brd_objects.specs.Table.{object_at};
 ghost use Rattle.brd_kernel.specs.Row.{Serves, served};
@@ -31,7 +31,6 @@ ghost use Rattle.brd_kernel.specs.Waits.{
   inheritor_in,
   inheritor_for,
   inheritors_below,
-  reason_of,
   priorities_of,
   prioritized_by,
   prioritized_below,
@@ -225,7 +224,7 @@ impl Kernel {
     }
 
     /// The base priority of a task, 0 where there is none.
-    fn base(&self, id: TaskId) -> u8
+    pub(super) fn base(&self, id: TaskId) -> u8
         ensures { result ≡ base_in (task_at self.now.tasks id) }
     {
         match self.common.tasks.task(id) {

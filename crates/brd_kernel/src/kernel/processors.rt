@@ -51,7 +51,7 @@ impl Kernel {
             return Err(Ercd::Par);
         }
         let _ = self.own_processor(cpu)?;
-        let priority = priority_or_callers(priority as u8, self.priority(caller));
+        let priority = priority_or_callers(priority as u8, self.base(caller));
         self.common.tasks.rotate(cpu, priority);
         Ok(OK)
     }
@@ -147,7 +147,7 @@ impl Kernel {
     }
 }
 
-/// The priority that a call names, where 0 is the caller's.
+/// The priority that a call names, where 0 is the caller's base priority.
 #[tactic(auto, unfolding(crate::specs::Services::priority_or_callers))]
 pub(super) fn priority_or_callers(priority: u8, callers: u8) -> u8
     ensures { result ≡ priority_or_callers priority callers }

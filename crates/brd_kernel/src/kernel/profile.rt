@@ -81,7 +81,7 @@ impl Kernel {
         }
         let on = self.processor_in_range(on)?;
         let _ = self.own_processor(on)?;
-        let priority = priority_or_callers(priority as u8, self.priority(caller));
+        let priority = priority_or_callers(priority as u8, self.base(caller));
         self.common.tasks.rotate(on, priority);
         Ok(OK)
     }
@@ -164,7 +164,7 @@ impl Kernel {
 }
 
 /// 1 for true, 0 for false.
-fn bit_word(bit: bool) -> u32
+pub(super) fn bit_word(bit: bool) -> u32
     ensures { result ≡ bit_word bit }
 {
     if bit { 1 } else { 0 }
@@ -250,7 +250,7 @@ fn object_word(why: Option<WaitReason>) -> u32
 }
 
 /// How many ticks are left of a wait that is over at a tick, if it is at one; of no wait 0.
-fn left_word(count: u64, due: Option<u64>, waits: bool) -> u32
+pub(super) fn left_word(count: u64, due: Option<u64>, waits: bool) -> u32
     ensures { result ≡ left_word count due waits }
 {
     if !waits {

@@ -26,7 +26,7 @@ use brd_tasks::{Request, Status, Task, TaskId, WaitReason};
 pub(super) const OK: Reply = Reply::Answer(0, None);
 
 /// How long dly_tsk may wait at most.
-const LONGEST_DELAY: u32 = 0x7fff_ffff;
+pub(super) const LONGEST_DELAY: u32 = 0x7fff_ffff;
 
 impl Kernel {
     /// Does a service call that comes from a processor.
@@ -120,6 +120,12 @@ impl Kernel {
             Call::TrcvMbx(id, timeout) => self.trcv_mbx(caller, id, timeout),
             Call::RefMpf(id, word) => self.ref_mpf(id, word),
             Call::RefMbx(id, word) => self.ref_mbx(id, word),
+            Call::StaCyc(id) => self.sta_cyc(id),
+            Call::StpCyc(id) => self.stp_cyc(id),
+            Call::StaAlm(id, time) => self.sta_alm(id, time),
+            Call::StpAlm(id) => self.stp_alm(id),
+            Call::RefCyc(id, word) => self.ref_cyc(id, word),
+            Call::RefAlm(id, word) => self.ref_alm(id, word),
         }
     }
 

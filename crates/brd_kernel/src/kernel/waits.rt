@@ -1,7 +1,7 @@
 //! Waits: how they begin, and how they end.
 
-ghost use Rattle.std.specs.Prelude.{◌≡◌, ◌<◌, ◌≤◌, ◌^◌, ◌-◌, Some, IfSome};
-ghost use Rattle.brd_tasks.specs.Tasks.{task_at, through, with_context};
+ghost use Rattle.std.specs.Prelude.{◌≡◌, ◌<◌, ◌^◌, ◌-◌, Some, IfSome};
+ghost use Rattle.brd_tasks.specs.Tasks.{task_at, through};
 ghost use Rattle.brd_tasks.specs.Status.{blocked};
 ghost use Rattle.brd_time.specs.Time.{with_due, due_from};
 ghost use Rattle.brd_kernel.specs.Waits.{
@@ -20,7 +20,6 @@ ghost use Rattle.brd_kernel.specs.Waits.{
   timed_out,
   all_timed_out,
 };
-ghost use Rattle.brd_kernel.specs.Kernel.{with_tasks};
 
 use super::Kernel;
 use crate::call::Ercd;

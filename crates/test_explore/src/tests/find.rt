@@ -3,7 +3,8 @@
 ghost use Rattle.std.specs.Prelude.{◌<◌};
 
 use super::sources::{
-    APART, DEADLOCK, LOOP, LOST_UPDATE, PETERSON, PETERSON_SWAPPED, REPAIRED, TWO,
+    APART, DEADLOCK, LOOP, LOST_UPDATE, PETERSON, PETERSON_SWAPPED, REPAIRED, SAMPLED, STARTED,
+    STOPPED, TWO,
 };
 use brd_base::List;
 use brd_board::{Board, Event};
@@ -64,7 +65,8 @@ const FAIR: &[Event] = &[Event::Step(1), Event::Step(2), Event::Tick];
 /// (By turns, step for step, the update is lost too: both load before either stores.) Of n steps of two processors that
 /// both go on for ever by local instructions 2 n schedules are tried with at most two preemptions: the first processor,
 /// and the place of the only switch, since that processor sleeps then. With one tick, at one of n places, n - 1 steps
-/// are left, and with one preemption no schedule is left out.
+/// are left, and with one preemption no schedule is left out. While a time handler is due who waits isn't in a deadlock,
+/// and the tick does something that raises the handler's line.
 const CASES: &[Case] = &[
     Case {
         source: LOST_UPDATE,
@@ -218,6 +220,42 @@ const CASES: &[Case] = &[
         wrong: Wrong::Exception,
         rounds: 0,
         answer: Told::NoneOf(72),
+    },
+    Case {
+        source: SAMPLED,
+        config: STARTED,
+        bounds: (40, 0, 0),
+        among: ONE,
+        wrong: Wrong::Deadlock,
+        rounds: 0,
+        answer: Told::NoneFails,
+    },
+    Case {
+        source: SAMPLED,
+        config: STOPPED,
+        bounds: (40, 0, 0),
+        among: ONE,
+        wrong: Wrong::Deadlock,
+        rounds: 0,
+        answer: Told::Fails,
+    },
+    Case {
+        source: SAMPLED,
+        config: STARTED,
+        bounds: (40, 0, 0),
+        among: TIMED,
+        wrong: Wrong::Inside(1),
+        rounds: 0,
+        answer: Told::NoneFails,
+    },
+    Case {
+        source: SAMPLED,
+        config: STARTED,
+        bounds: (40, 0, 1),
+        among: TIMED,
+        wrong: Wrong::Inside(1),
+        rounds: 0,
+        answer: Told::Fails,
     },
 ];
 

@@ -19,6 +19,27 @@ pub const HANDLED: &str = "BOARD(2, 0x10000);
     CRE_TSK(1, {TA_ACT, 0, main, 1, 256, NULL});
     CLASS(TCL_2) { CRE_TSK(2, {TA_ACT, 1, main, 1, 256, NULL}); }";
 
+/// A task, and a cyclic handler that is due at the first tick.
+pub const STARTED: &str = "PROFILE(STANDARD); BOARD(1, 0x10000);
+    CRE_TSK(1, {TA_ACT, 0, main, 1, 256, NULL});
+    CRE_CYC(1, {TA_HLNG | TA_STA, 0, sample, 1, 0});";
+
+/// The same, and the handler is stopped.
+pub const STOPPED: &str = "PROFILE(STANDARD); BOARD(1, 0x10000);
+    CRE_TSK(1, {TA_ACT, 0, main, 1, 256, NULL});
+    CRE_CYC(1, {TA_HLNG, 0, sample, 1, 0});";
+
+/// The task sleeps, and the handler stores 2 into the word at 0x8000000c.
+pub const SAMPLED: &str = "words: .word 0, 0, 0, 0
+main:   addiu $v0, $0, 16
+        syscall
+sample: lui   $s0, %hi(words)
+        addiu $t0, $0, 2
+        sw    $t0, 12($s0)
+        addiu $v0, $0, 58
+        syscall
+";
+
 /// It goes on for ever.
 pub const LOOP: &str = "main: b main
         nop

@@ -586,8 +586,14 @@ fn with_lines(alloc: Global, in_turn: bool) -> Result<Kernel, NoMemory> {
     let handler = Handler {
         cpu: 1,
         address: 0x8000_0100,
+        argument: 0,
     };
-    let mut lines = [LineSetup { line: 0, handler }; 32];
+    let quiet = LineSetup {
+        line: 0,
+        handler,
+        course: None,
+    };
+    let mut lines = [quiet; 32];
     for n in 0..32usize {
         lines[n].line = n as u8;
         if in_turn {

@@ -155,6 +155,14 @@ const PROFILE_NUMBERS: &[(u32, Places, Named)] = &[
     (90, WAITS, ("trcv_mbx", [11, 22, 0, 0])),
     (91, TASKS, ("ref_mpf", [11, 22, 0, 0])),
     (92, TASKS, ("ref_mbx", [11, 22, 0, 0])),
+    (93, TASKS, ("sta_cyc", [11, 0, 0, 0])),
+    (94, TASKS, ("stp_cyc", [11, 0, 0, 0])),
+    (95, TASKS, ("sta_alm", [11, 22, 0, 0])),
+    (96, HANDLERS, ("sta_alm", [11, 22, 0, 0])),
+    (97, TASKS, ("stp_alm", [11, 0, 0, 0])),
+    (98, HANDLERS, ("stp_alm", [11, 0, 0, 0])),
+    (99, TASKS, ("ref_cyc", [11, 22, 0, 0])),
+    (100, TASKS, ("ref_alm", [11, 22, 0, 0])),
     (112, HANDLERS, ("get_pid", [0, 0, 0, 0])),
 ];
 
@@ -230,6 +238,12 @@ fn name_of(call: Call) -> &'static str {
         Call::TrcvMbx(_, _) => "trcv_mbx",
         Call::RefMpf(_, _) => "ref_mpf",
         Call::RefMbx(_, _) => "ref_mbx",
+        Call::StaCyc(_) => "sta_cyc",
+        Call::StpCyc(_) => "stp_cyc",
+        Call::StaAlm(_, _) => "sta_alm",
+        Call::StpAlm(_) => "stp_alm",
+        Call::RefCyc(_, _) => "ref_cyc",
+        Call::RefAlm(_, _) => "ref_alm",
     }
 }
 
@@ -258,6 +272,9 @@ fn arguments_of(call: Call) -> [u32; 4] {
         | Call::SetTim(first)
         | Call::MgetTid(first)
         | Call::UnlMtx(first)
+        | Call::StaCyc(first)
+        | Call::StpCyc(first)
+        | Call::StpAlm(first)
         | Call::PutChr(first) => [first, 0, 0, 0],
         Call::ChgPri(first, second)
         | Call::MactTsk(first, second)
@@ -279,6 +296,9 @@ fn arguments_of(call: Call) -> [u32; 4] {
         | Call::TrcvMbx(first, second)
         | Call::RefMpf(first, second)
         | Call::RefMbx(first, second)
+        | Call::StaAlm(first, second)
+        | Call::RefCyc(first, second)
+        | Call::RefAlm(first, second)
         | Call::TrcvDtq(first, second) => [first, second, 0, 0],
         Call::TsndDtq(first, second, third) | Call::SndMbx(first, second, third) => {
             [first, second, third, 0]
@@ -328,8 +348,8 @@ const NO_NUMBERS: &[u32] = &[
     47,
     59,
     63,
-    93,
-    99,
+    101,
+    111,
     115,
     0x101,
     0xffff_ffff,

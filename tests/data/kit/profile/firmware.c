@@ -14,8 +14,9 @@
 static struct {
     const char *call;
     INT answer;
-} handled[9];
+} handled[13];
 static INT calls;
+static INT said;
 
 #define HANDLED(it) (handled[calls].call = #it, handled[calls].answer = (INT)(it), calls++)
 
@@ -37,6 +38,18 @@ void handler(INHNO line)
     HANDLED(isig_tim());
     HANDLED(isnd_mbx(ONE, &low.msgque));
     HANDLED(iwup_tsk(MAIN));
+}
+
+void cycle(VP_INT exinf)
+{
+    HANDLED(exinf);
+}
+
+void alarm(VP_INT exinf)
+{
+    HANDLED(exinf);
+    HANDLED(ista_alm(ONE, 3));
+    HANDLED(istp_alm(ONE));
 }
 
 void waiter(VP_INT unused)
@@ -181,6 +194,34 @@ static void mailboxes(void)
     SAY(mailbox.pk_msg == NULL);
 }
 
+static void time_handlers(void)
+{
+    T_RCYC cyclic;
+    T_RALM once;
+    SAY(sta_cyc(ONE));
+    SAY(ref_cyc(ONE, &cyclic));
+    printf("state %d, %d more\n", cyclic.cycstat, cyclic.lefttim);
+    SAY(stp_cyc(ONE));
+    SAY(ref_cyc(ONE, &cyclic));
+    printf("state %d, %d more\n", cyclic.cycstat, cyclic.lefttim);
+    SAY(sta_cyc(TWO));
+    SAY(sta_alm(ONE, 5));
+    SAY(ref_alm(ONE, &once));
+    printf("state %d, %d more\n", once.almstat, once.lefttim);
+    SAY(stp_alm(ONE));
+    SAY(ref_alm(ONE, &once));
+    printf("state %d, %d more\n", once.almstat, once.lefttim);
+    SAY(sta_alm(ONE, 0x80000000));
+    SAY(sta_alm(ONE, 0));
+    SAY(sta_cyc(ONE));
+}
+
+static void say_handled(void)
+{
+    for (; said < calls; said++)
+        printf("in the handler: %s = %d\n", handled[said].call, handled[said].answer);
+}
+
 void all_calls(VP_INT unused)
 {
     SYSTIM result;
@@ -193,11 +234,12 @@ void all_calls(VP_INT unused)
     mutexes();
     pools();
     mailboxes();
+    time_handlers();
     slp_tsk();
-    for (INT i = 0; i < calls; i++)
-        printf("in the handler: %s = %d\n", handled[i].call, handled[i].answer);
+    say_handled();
     SAY(prcv_mbx(ONE, &got));
     dly_tsk(1);
+    say_handled();
     SAY_RESULT(get_tim(&result));
     ext_ker();
 }

@@ -11,4 +11,4 @@ returns-then-not-is_ram_size-clause-read c =
 pub returns-clause-read : goal.returns-clause-read
 unfolding board_of
 returns-clause-read c =
-    rw (c.in_ok-processors.ensures.read, same_test _ _ c.if-not-is_ram_size.ensures, c.new.ensures, c.new-2.ensures, c.new-3.ensures, c.new-4.ensures, c.new-5.ensures, c.new-6.ensures, c.new-7.ensures, c.new-8.ensures, c.new-9.ensures) refl
+    rw (c.in_ok-processors.ensures.read, same_test _ _ c.if-not-is_ram_size.ensures, c.new.ensures, c.new-2.ensures, c.new-3.ensures, c.new-4.ensures, c.new-5.ensures, c.new-6.ensures, c.new-7.ensures, c.new-8.ensures, c.new-9.ensures, c.new-10.ensures, c.new-11.ensures) refl

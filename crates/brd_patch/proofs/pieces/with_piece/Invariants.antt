@@ -1,4 +1,4 @@
-use Rattle.std.proofs.Common.{◌≡◌, ◌+◌, length, take}
+use Rattle.std.proofs.Common.{◌≡◌, take}
 use Rattle.std.specs.Prelude.{flat_map}
 use Rattle.brd_patch.specs.Data.{beside, end_of}
 use Rattle.brd_patch.proofs.pieces.with_piece.Given as goal

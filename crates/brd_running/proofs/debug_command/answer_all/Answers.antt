@@ -5,7 +5,6 @@ use Rattle.brd_running.specs.Lines.{CountsLine}
 use Rattle.brd_running.proofs.AnswerLemmas.{all_answered, quit_answered, more_answered, front_answered, stopped}
 use Rattle.brd_report.proofs.OutputLemmas as output
 use Rattle.brd_running.proofs.debug_command.answer_all.Goals as goal
-use Rattle.brd_running.proofs.debug_command.answer_all.Goals.{After-answer}
 
 -- the bytes of a line, or of an answer, where there is one
 abbrev items : Option (Vec ℕ Global) → Option (List ℕ)

@@ -17,5 +17,5 @@ made n m k queues none empty trails holds old rings are-trails is-none are-holds
 
 pub returns : goal.returns
 returns c =
-    made 288 9 256 c.args.queues.now c.free.result c.new.result _ _ _ _ c.in_ok-new.ensures c.free.ensures c.in_ok-new-2.ensures c.new.ensures
+    made 416 9 256 c.args.queues.now c.free.result c.new.result _ _ _ _ c.in_ok-new.ensures c.free.ensures c.in_ok-new-2.ensures c.new.ensures
     c.in_ok-rings.ensures c.put_rings.ensures

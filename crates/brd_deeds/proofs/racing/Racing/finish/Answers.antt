@@ -16,7 +16,7 @@ returns-clause-races c = λ queues boot events is.
     let old = deeds_up_to queues boot events at in
     let run : deeds_of_run queues boot (take at events) ≡ old.deeds ++ c.as_slice.result.now =
     run-deeds queues boot events at past c.settle_all.new.self is.past
-    (c.in_ok-settle_all.ensures ∙ ap (λ (ds : List Deed). settles_below 288 (record { past = past; deeds = ds })) c.new.ensures)
+    (c.in_ok-settle_all.ensures ∙ ap (λ (ds : List Deed). settles_below 416 (record { past = past; deeds = ds })) c.new.ensures)
     ∙ ap (λ (ds : List Deed). old.deeds ++ ds) (sym c.as_slice.ensures) in
     subst (λ (races : List Race). AreRaces (deeds_of_run queues boot (take at events)) races) (sym c.in_ok-races.ensures)
     (c.races.ensures (deeds_of_run queues boot (take at events))
@@ -29,7 +29,7 @@ returns-in-Err-clause-refuses c = λ queues boot events is.
     let old = deeds_up_to queues boot events at in
     let run : deeds_of_run queues boot (take at events) ≡ old.deeds ++ c.as_slice.result.now =
     run-deeds queues boot events at past c.settle_all.new.self is.past
-    (c.in_ok-settle_all.ensures ∙ ap (λ (ds : List Deed). settles_below 288 (record { past = past; deeds = ds })) c.new.ensures)
+    (c.in_ok-settle_all.ensures ∙ ap (λ (ds : List Deed). settles_below 416 (record { past = past; deeds = ds })) c.new.ensures)
     ∙ ap (λ (ds : List Deed). old.deeds ++ ds) (sym c.as_slice.ensures) in
     subst (λ n. MayRefuse n c.in-Err.fault) (sym (ap length run ∙ length-append old.deeds c.as_slice.result.now))
     (c.in-Err.ensures.refuses (length old.deeds) is.kept)

@@ -1,5 +1,5 @@
 -- Those below are done.
-use Rattle.std.proofs.Common.{◌≡◌, ◌≤◌, length}
+use Rattle.std.proofs.Common.{◌≡◌, length}
 use Rattle.brd_kernel.specs.Waits.{bases_below}
 use Rattle.brd_kernel.proofs.kernel.Kernel.bases.Given as goal
 

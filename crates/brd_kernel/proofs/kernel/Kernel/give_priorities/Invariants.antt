@@ -1,5 +1,5 @@
 -- Those below are done.
-use Rattle.std.proofs.Common.{◌≡◌, ◌≤◌, length}
+use Rattle.std.proofs.Common.{◌≡◌}
 use Rattle.brd_kernel.specs.Waits.{prioritized_below}
 use Rattle.brd_kernel.proofs.kernel.Kernel.give_priorities.Given as goal
 

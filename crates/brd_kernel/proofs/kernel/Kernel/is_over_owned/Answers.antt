@@ -1,8 +1,8 @@
-use Rattle.std.proofs.Common.{◌≡◌, Bool, true, false, sym, ap, ◌∙◌}
+use Rattle.std.proofs.Common.{Bool, true, false, sym, ap, ◌∙◌}
 use Rattle.std.specs.Prelude.{◌&&◌, ◌||◌}
 use Rattle.brd_objects.specs.Table.{object_at}
 use Rattle.brd_kernel.specs.Waits.{has_mutex_in}
-use Rattle.brd_kernel.specs.Services.{is_over_mutex, is_over_below}
+use Rattle.brd_kernel.specs.Services.{is_over_mutex}
 use Rattle.brd_kernel.proofs.BelowLemmas.{over_more}
 use Rattle.brd_kernel.proofs.kernel.Kernel.is_over_owned.Goals as goal
 use Rattle.brd_kernel.proofs.kernel.Kernel.is_over_owned.Goals.{then-over, else-over}

@@ -1,5 +1,4 @@
 use Rattle.std.proofs.Common.{◌≡◌, ℕ, List, ap, ◌∙◌}
-use Rattle.std.specs.Prelude.{Option}
 use Rattle.std.proofs.lemmas.Result.{on_ok_weaker}
 use Rattle.brd_happening.specs.declared.happening.Happening.{Happening}
 use Rattle.brd_verdicts.specs.declared.accounts.Accounts.{Accounts}
@@ -7,7 +6,7 @@ use Rattle.brd_verdicts.specs.declared.answers.Answered.{Answered}
 use Rattle.brd_verdicts.specs.declared.losses.LostRaises.{LostRaises}
 use Rattle.brd_verdicts.specs.Accounts.{all_answered}
 use Rattle.brd_verdicts.specs.Answers.{answers_in, begun_after}
-use Rattle.brd_verdicts.specs.Losses.{lost_if, lost_in}
+use Rattle.brd_verdicts.specs.Losses.{lost_by}
 use Rattle.brd_verdicts.proofs.accounts.Accounts.count.Goals as goal
 
 pub returns : goal.returns
@@ -19,11 +18,10 @@ returns c =
     let all : after ≡ all_answered position (answers_in old.begun told) old =
     c.in_ok-count_answers.ensures
     ∙ ap (λ (its : List Answered). all_answered position its old) (c.as_slice.ensures ∙ c.in_ok-answers.ensures) in
-    on_ok_weaker c.count.result
+    on_ok_weaker c.count_all.result
     (λ is.
-    ap (λ (begun : List ℕ). record after { begun = begun; lost = c.count.new.self }) c.keep_begun.ensures
-    ∙ ap (λ (lost : List LostRaises). record after { begun = begun_after told told.what after.begun; lost = lost })
-    (is ∙ ap (λ (l : Option LostRaises). lost_if l after.lost) c.lost_in.ensures)
+    ap (λ (begun : List ℕ). record after { begun = begun; lost = c.count_all.new.self }) c.keep_begun.ensures
+    ∙ ap (λ (lost : List LostRaises). record after { begun = begun_after told told.what after.begun; lost = lost }) is
     ∙ ap (λ (a : Accounts).
-    record a { begun = begun_after told told.what a.begun; lost = lost_if (lost_in position told.what) a.lost }) all)
-    c.count.ensures
+    record a { begun = begun_after told told.what a.begun; lost = lost_by position told a.lost }) all)
+    c.count_all.ensures

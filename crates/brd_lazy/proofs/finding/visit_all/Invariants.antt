@@ -1,0 +1,10 @@
+-- The places so far were gone through.
+use Rattle.brd_reach.specs.Rounds.{sharing_for}
+use Rattle.brd_lazy.specs.Finding.{AreDone, IsMore}
+use Rattle.brd_lazy.proofs.finding.visit_all.Given as goal
+
+abbrev pub invariant-loop-at : goal.invariant-loop-at
+invariant-loop-at g l = record {
+  more : IsMore l.fn.spots l.spots;
+  done : AreDone (sharing_for l.sharing l.wanted) l.among l.wanted l.spots l.at;
+}

@@ -1,0 +1,201 @@
+//! The search: all places of a lazy tree, and a schedule that fails if one of them does.
+
+ghost use Rattle.std.specs.Prelude.{◌≡◌, IfErr, IfOk, true};
+ghost use Rattle.brd_explore.specs.Schedules.{IsAmong, start};
+ghost use Rattle.brd_explore.specs.Searching.{HaltsSo, IsFound};
+ghost use Rattle.brd_lazy.specs.Finding.{FoundSo, IsMore, RoundSo};
+ghost use Rattle.brd_reach.specs.Rounds.{sharing_for};
+
+use crate::bounds::{affords, spent, stepper};
+use crate::spots::Spots;
+use crate::visit::{Tried, visit};
+use brd_base::NoMemory;
+use brd_blocks::Sharing;
+use brd_board::{Board, Event};
+use brd_explore::{Bounds, Halt, Wanted, Watch, did_nothing};
+use brd_reach::{Unknown, guarded, learn, owned_words, ram_len};
+use std::alloc::Global;
+
+/// Through how many places a search went, and what was left there.
+#[derive(Clone, Copy, Debug, PartialEq, Eq)]
+pub struct Gone {
+    /// Through how many.
+    pub places: usize,
+    /// How many of them are ends.
+    pub ends: usize,
+    /// How many preemptions were left at each. If any were, the bound on them has left nothing out.
+    pub spare: u32,
+}
+
+/// What a lazy search came to.
+#[derive(Drop)]
+pub enum Lazily {
+    /// A schedule within the bounds that fails.
+    Found(Vec<Event>),
+    /// No schedule within them fails.
+    NoneFails(Gone),
+    /// It isn't known.
+    Unknown(Unknown),
+}
+
+/// What a round came to.
+#[derive(Clone, Copy, PartialEq, Eq)]
+pub(crate) enum Round {
+    /// No place fails, and there are no others.
+    Holds,
+    /// The place of this index fails.
+    Fails(usize),
+    /// At the place of this index, after so many steps of a processor, there is one that doesn't keep to who may touch
+    /// what, and who is mortal.
+    Strays(usize, u8, u32),
+    /// It isn't known.
+    Unknown(Unknown),
+}
+
+/// How often a search begins anew at most (own choice).
+const MOST_ROUNDS: u32 = 10_000;
+
+/// Searches the schedules of a board within bounds, of which each event is one of these, for one that fails: by the lazy
+/// ones. It goes through so many places at most. Who watches is told through how many it has gone.
+pub fn find_lazily<W: Watch>(
+    alloc: Global,
+    board: &Board,
+    bounds: Bounds,
+    among: &[Event],
+    wanted: &Wanted,
+    most: usize,
+    watch: &mut W,
+) -> Result<Lazily, Halt>
+    ensures is { IfOk result (FoundSo wanted.now among.now (start board.now bounds)) }
+    ensures halts { IfErr result (HaltsSo W.may_stop) }
+{
+    if wanted.rounds != 0 {
+        return Ok(Lazily::Unknown(Unknown::Fair));
+    }
+    let size = ram_len(board);
+    let mut sharing = guarded(alloc, size, wanted)?;
+    for _ in 0..MOST_ROUNDS {
+        let words = owned_words(alloc, &sharing, size)?;
+        let mut spots = Spots::new(alloc, board, bounds)?;
+        let mut ends = 0usize;
+        match visit_all(
+            &mut spots,
+            &mut ends,
+            &sharing,
+            words.as_slice(),
+            among,
+            wanted,
+            most,
+            watch,
+        )? {
+            Round::Holds => return Ok(Lazily::NoneFails(how_far(&spots, ends))),
+            Round::Fails(at) => return Ok(found(alloc, board, bounds, among, wanted, &spots, at)?),
+            Round::Strays(at, cpu, count) => {
+                let place = spots.board(at)?;
+                learn(&mut sharing, place, cpu, count, among);
+            }
+            Round::Unknown(why) => return Ok(Lazily::Unknown(why)),
+        }
+    }
+    Ok(Lazily::Unknown(Unknown::Rounds))
+}
+
+/// Through how many places a search went, and what was left there.
+fn how_far(spots: &Spots, ends: usize) -> Gone {
+    Gone {
+        places: spots.len(),
+        ends,
+        spare: spots.spare(),
+    }
+}
+
+/// Visits places, and those to which events lead from them, until all have been visited or one fails; at most so many.
+fn visit_all<W: Watch>(
+    spots: &mut Spots,
+    ends: &mut usize,
+    sharing: &Sharing,
+    words: &[u32],
+    among: &[Event],
+    wanted: &Wanted,
+    most: usize,
+    watch: &mut W,
+) -> Result<Round, Halt>
+    ensures more { IsMore spots.old spots.new }
+    ensures so { IfOk result (RoundSo (sharing_for sharing.now wanted.now) among.now wanted.now spots.new) }
+    ensures halts { IfErr result (HaltsSo W.may_stop) }
+{
+    for at in 0..most {
+        if at >= spots.len() {
+            return Ok(Round::Holds);
+        }
+        if !watch.tried(at as u64) {
+            return Err(Halt::Stopped);
+        }
+        match visit(spots, ends, at, sharing, words, among, wanted)? {
+            Tried::Done => {}
+            Tried::Fails => return Ok(Round::Fails(at)),
+            Tried::Strays(cpu, count) => return Ok(Round::Strays(at, cpu, count)),
+            Tried::Unknown(why) => return Ok(Round::Unknown(why)),
+        }
+    }
+    Ok(Round::Unknown(Unknown::Places))
+}
+
+/// The schedule that leads to the place of an index, if it fails.
+fn found(
+    alloc: Global,
+    board: &Board,
+    bounds: Bounds,
+    among: &[Event],
+    wanted: &Wanted,
+    spots: &Spots,
+    at: usize,
+) -> Result<Lazily, NoMemory>
+    ensures { IfOk result (FoundSo wanted.now among.now (start board.now bounds)) }
+{
+    let path = spots.path(at)?;
+    let events = Vec::from_slice(alloc, path.as_slice())?;
+    if is_found(board, bounds, among, wanted, events.as_slice())? {
+        return Ok(Lazily::Found(events));
+    }
+    Ok(Lazily::Unknown(Unknown::Waits))
+}
+
+/// Whether these events are a schedule within the bounds that fails.
+fn is_found(
+    board: &Board,
+    bounds: Bounds,
+    among: &[Event],
+    wanted: &Wanted,
+    events: &[Event],
+) -> Result<bool, NoMemory>
+    ensures { IfOk result (λ found. found ≡ true → IsFound wanted.now among.now (start board.now bounds) events.now) }
+{
+    let mut there = board.try_copy()?;
+    let mut left = bounds;
+    let mut last = None;
+    for event in events {
+        if !is_among(among, *event) || !affords(left, last, *event) {
+            return Ok(false);
+        }
+        let rest = spent(left, last, *event);
+        if did_nothing(there.event_apart(*event)) {
+            return Ok(false);
+        }
+        left = rest;
+        last = stepper(&there, last, *event);
+    }
+    wanted.fails_at(&there, left)
+}
+
+/// Whether an event is one of these.
+fn is_among(among: &[Event], event: Event) -> bool
+    ensures { result ≡ true → IsAmong among.now event }
+{
+    for other in among {
+        if *other == event {
+            return true;
+        }
+    }
+    false
+}
