@@ -10,7 +10,7 @@ use clap::{Arg, ArgAction, Command};
 use std::alloc::Global;
 
 /// The version of the program, and the kit of Rattle that built it.
-const VERSION: &str = "1.0 (rattle-kit-13b)";
+const VERSION: &str = "1.0 (rattle-kit-13f)";
 
 /// What help says of the files.
 const FILES: &str = "\
