@@ -260,11 +260,8 @@ fn may_call(agent: Agent, place: Place, named: u32) -> bool
             Place::Handler => !locked,
             Place::LockedHandler | Place::Anywhere => true,
             Place::NotHoldingHandler => !holding,
-            Place::Task
-            | Place::LockedTask
-            | Place::NotHolding
-            | Place::Waiting
-            | Place::OnTask => false,
+            Place::Task | Place::LockedTask | Place::NotHolding | Place::Waiting | Place::OnTask =>
+                false,
         },
         Agent::Task {
             id,
