@@ -639,13 +639,13 @@ irot_rdq k cpu priority = record (on_own_processor k cpu) {
   does = λ p. ok (with_tasks k (turned k.tasks cpu priority));
 }
 
--- the handler of a processor has ended, and nothing is left of it
+-- the handler of a processor has ended, and nothing is left of it: no CPU lock, no spin lock that it holds
 abbrev pub handler_ended : KernelState → ℕ → Processor → KernelState
-handler_ended k cpu p = record (with_processor k cpu (record p { handling = None })) {
+handler_ended k cpu p = record (with_processor k cpu (record (letting_go p) { handling = None })) {
   handler_contexts = slice_set k.handler_contexts cpu no_context;
 }
 
--- 58 ret_int. Ends the handler.
+-- 58 ret_int. Ends the handler, and with it CPU lock and spin lock that it leaves.
 abbrev pub ret_int : KernelState → ℕ → Row Processor
 ret_int k cpu = record (on_own_processor k cpu) { does = λ p. silent (handler_ended k cpu p) }
 
