@@ -349,7 +349,8 @@ fn is_read(number: u32, agent: Agent, may: bool, wanted: Named) -> bool {
 /// The first of these numbers that isn't read as it should be from somewhere.
 fn first_wrong(numbers: &[(u32, Places, Named)]) -> Option<u32> {
     for (number, (tasks, handlers), call) in numbers {
-        if !is_read_in_task(*number, *tasks, *call) || !is_read_in_handler(*number, *handlers, *call)
+        if !is_read_in_task(*number, *tasks, *call)
+            || !is_read_in_handler(*number, *handlers, *call)
         {
             return Some(*number);
         }
