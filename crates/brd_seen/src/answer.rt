@@ -48,7 +48,6 @@ fn context_advice(number: u32) -> Option<&'static str> {
         2
         | 4..=6
         | 8
-        | 9
         | 12
         | 13
         | 19
@@ -74,6 +73,9 @@ fn context_advice(number: u32) -> Option<&'static str> {
         | 94
         | 99
         | 100 => { "not from a handler, nor with the CPU locked" }
+        9 => {
+            "not from a handler, which calls iget_pid with PROFILE(STANDARD), nor with the CPU locked"
+        }
         60 => {
             "not from a handler, which calls iloc_spn with PROFILE(STANDARD), nor with the CPU locked"
         }
