@@ -2,8 +2,8 @@
 
 use crate::recording::Known;
 use brd_base::NoMemory;
-use brd_board::{Board, Spin, Standing};
-use brd_names::SpinningTask;
+use brd_board::{Board, Spin};
+use brd_names::Spinner;
 use brd_timeline::{Hold, Spinning};
 use std::alloc::Global;
 
@@ -25,11 +25,11 @@ struct Lock {
     holder: Option<Holder>,
 }
 
-/// A task that asks for a spin lock again and again, and from which position on.
+/// A task or a handler that asks for a spin lock again and again, and from which position on.
 #[derive(Clone, Copy)]
 struct Asking {
     /// Who, and for which lock.
-    task: SpinningTask,
+    spinner: Spinner,
     /// The place of its processor in the list of processors.
     lane: usize,
     /// From where.
@@ -125,23 +125,23 @@ impl Locks {
         Ok(())
     }
 
-    /// A task has asked for a lock that is held, so that it asks again from a position on, on the processor of a lane.
-    pub fn ask(&mut self, task: SpinningTask, lane: usize, at: u64) -> Result<(), NoMemory> {
+    /// Somebody has asked for a lock that is held, and asks again from a position on, on the processor of a lane.
+    pub fn ask(&mut self, spinner: Spinner, lane: usize, at: u64) -> Result<(), NoMemory> {
         for asking in self.asking.iter() {
-            if asking.task == task {
+            if asking.spinner == spinner {
                 return Ok(());
             }
         }
         self.asking.push(Asking {
-            task,
+            spinner,
             lane,
             from: at,
         })?;
         Ok(())
     }
 
-    /// Ends what a position ends: a task asks no more where its processor has made another step, or does something
-    /// else, or the task is elsewhere.
+    /// Ends what a position ends: a task or a handler asks no more where its processor has made another step, or it
+    /// does something else, or is elsewhere.
     pub fn answer(
         &mut self,
         known: Known,
@@ -161,23 +161,23 @@ impl Locks {
         Ok(())
     }
 
-    /// The place of a task that asks no more.
+    /// The place of one that asks no more.
     fn answered(&self, known: Known, board: &Board, cpu: Option<u8>) -> Option<usize> {
         for place in 0..self.asking.len() {
-            let task = self.asking[place].task;
-            if known.is_off || cpu == Some(task.cpu) || !stands(known, board, task) {
+            let spinner = self.asking[place].spinner;
+            if known.is_off || cpu == Some(spinner.cpu) || !stands(known, board, spinner) {
                 return Some(place);
             }
         }
         None
     }
 
-    /// Ends that a task asks.
+    /// Ends that somebody asks.
     fn end_asking(&mut self, asking: Asking, to: u64) -> Result<(), NoMemory> {
         if asking.from < to {
             self.spins.push(Spinning {
                 lane: asking.lane,
-                lock: asking.task.lock,
+                lock: asking.spinner.lock,
                 from: asking.from,
                 to,
             })?;
@@ -213,13 +213,13 @@ impl Locks {
     }
 }
 
-/// Whether a task still stands where it has asked for a lock.
-fn stands(known: Known, board: &Board, task: SpinningTask) -> bool {
-    if known.standings.at(task.cpu) != Some(Standing::Task(task.task)) {
+/// Whether a task or a handler still stands where it has asked for a lock.
+fn stands(known: Known, board: &Board, spinner: Spinner) -> bool {
+    if known.standings.at(spinner.cpu) != Some(spinner.who) {
         return false;
     }
-    match board.registers(task.cpu) {
-        Some(context) => context.pc() == task.place,
+    match board.registers(spinner.cpu) {
+        Some(context) => context.pc() == spinner.place,
         None => false,
     }
 }

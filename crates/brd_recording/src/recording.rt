@@ -57,7 +57,7 @@ use brd_base::NoMemory;
 use brd_board::{Board, Standing, TaskState, WaitReason};
 use brd_happening::Happening;
 use brd_journal::Journal;
-use brd_names::{Quiet, SpinningTask, Standings, put_called, put_named, put_wait};
+use brd_names::{Quiet, Spinner, Standings, put_called, put_named, put_wait};
 use brd_seen::{TaskSeen, quiet_of};
 use brd_timeline::{Group, Kind, Lane, Mark, MarkKind, Slice, Timeline};
 use std::alloc::Global;
@@ -311,20 +311,20 @@ impl Recording {
     {
         self.locks.see(board, at)?;
         match quiet_of(told) {
-            Some(Quiet::Spins(task)) => {
+            Some(Quiet::Spins(spinner)) => {
                 self.locks.answer(known, board, None, at)?;
-                self.ask(task, at)
+                self.ask(spinner, at)
             }
             _ => self.locks.answer(known, board, told.cpu, at),
         }
     }
 
-    /// A task has asked for a spin lock that is held, so that it asks again from a position on.
-    fn ask(&mut self, task: SpinningTask, at: u64) -> Result<(), NoMemory>
+    /// Somebody has asked for a spin lock that is held, and asks again from a position on.
+    fn ask(&mut self, spinner: Spinner, at: u64) -> Result<(), NoMemory>
         ensures { lanes_of self.new ≡ lanes_of self.old }
     {
-        match self.lane_of(task.cpu) {
-            Some(lane) => self.locks.ask(task, lane, at),
+        match self.lane_of(spinner.cpu) {
+            Some(lane) => self.locks.ask(spinner, lane, at),
             None => Ok(()),
         }
     }

@@ -11,7 +11,7 @@ use crate::timeline::{Hold, Spinning, Timeline};
 use brd_base::NoMemory;
 use brd_text::{put, put_decimal};
 
-/// The colour of a stretch in which a task asks for a spin lock again and again.
+/// The colour of a stretch in which a task or a handler asks for a spin lock again and again.
 pub(crate) const SPINS: &str = "#d55e00";
 
 /// How high such a stretch is, at the bottom of the processor's slice.

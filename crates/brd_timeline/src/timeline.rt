@@ -102,7 +102,7 @@ pub struct Hold {
     pub to: u64,
 }
 
-/// A stretch in which a task asked for a spin lock again and again. It lies in a slice of the processor's lane.
+/// A stretch in which a task or a handler asked for a spin lock again and again. It lies in a slice of the processor's lane.
 #[derive(Clone, Copy)]
 pub struct Spinning {
     /// The processor's place in the list of lanes, from 0 on.

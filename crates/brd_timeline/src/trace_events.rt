@@ -266,7 +266,7 @@ fn put_hold(to: &mut Vec<u8>, hold: Hold) -> Result<(), NoMemory>
     put_numbered(to, "held by cpu ", u64::from(hold.cpu))
 }
 
-/// Puts at the end that a task asks for a spin lock again and again, where it has a lane.
+/// Puts at the end that a task or a handler asks for a spin lock again and again, where it has a lane.
 fn put_spinning(to: &mut Vec<u8>, timeline: &Timeline, it: Spinning) -> Result<(), NoMemory>
     ensures { OnOk result
         (to.new.items ≡ to.old.items ++ events.behind (events.spin_events timeline.now.lanes.items it)) }
