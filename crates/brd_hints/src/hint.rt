@@ -13,7 +13,7 @@ const MOST: usize = 230;
 pub(crate) const MOST_OF_NAME: usize = 40;
 
 /// How many bytes of advice are shown: all, where it is a table's.
-pub(crate) const MOST_OF_ADVICE: usize = 120;
+pub(crate) const MOST_OF_ADVICE: usize = 130;
 
 /// The text of a diagnosis: printable ASCII on one line, or nothing. Contracts see nothing of it.
 #[derive(Debug, Drop)]
