@@ -69,11 +69,18 @@ fn put_owning(to: &mut Vec<u8>, timeline: &Timeline, it: Owning) -> Result<(), N
     let width = x_of(timeline, it.to).saturating_sub(x);
     let y = mutex_y(timeline, it.mutex);
     put_rect(to, (x, y), (width.max(LEAST_WIDTH), HEIGHT), OWNED)?;
+    put_hint(to, it)?;
+    put_label(to, it.task, x, y, width)
+}
+
+/// Puts at the end what a browser shows of the bar under the pointer, and closes it.
+fn put_hint(to: &mut Vec<u8>, it: Owning) -> Result<(), NoMemory>
+    ensures { OnOk result (GoesOn to.old.items to.new.items) }
+{
     put(to, "<title>")?;
     put_task(to, it.task)?;
     put(to, " has it, ")?;
-    put_span(to, it.from, it.to)?;
-    put_label(to, it.task, (x, y), width)
+    put_span(to, it.from, it.to)
 }
 
 /// Puts the name of a task at the end.
@@ -85,15 +92,15 @@ fn put_task(to: &mut Vec<u8>, task: u16) -> Result<(), NoMemory>
 }
 
 /// Puts the task in a bar at the end, where it has room for that.
-fn put_label(to: &mut Vec<u8>, task: u16, place: (u32, u32), width: u32) -> Result<(), NoMemory>
-    requires across { place.0 ≤ 11400 }
-    requires down { place.1 ≤ 2700000 }
+fn put_label(to: &mut Vec<u8>, task: u16, x: u32, y: u32, width: u32) -> Result<(), NoMemory>
+    requires across { x ≤ 11400 }
+    requires down { y ≤ 2700000 }
     ensures { OnOk result (GoesOn to.old.items to.new.items) }
 {
     if LETTERS > width.saturating_sub(MARGIN) / LETTER {
         return Ok(());
     }
-    put_ink(to, "#000000", place.0 + MARGIN / 2, place.1 + 140)?;
+    put_ink(to, "#000000", x + MARGIN / 2, y + 140)?;
     put_task(to, task)?;
     put(to, "</text>\n")
 }
