@@ -114,8 +114,8 @@ fn put_owned(to: &mut Vec<u8>, timeline: &Timeline, x: u32) -> Result<u32, NoMem
         return Ok(x);
     }
     put_swatch(to, OWNED, HEIGHT, x, MARK_ROW)?;
-    put_name(to, "has it", x, MARK_ROW)?;
-    Ok(after(x, "has it"))
+    put_name(to, "has the mutex", x, MARK_ROW)?;
+    Ok(after(x, "has the mutex"))
 }
 
 /// Puts the processors at the end that have turns or hold spin locks, and what stands for several.
