@@ -1,10 +1,12 @@
-//! Who holds the spin locks of a board in the course of a run, and who asks for them again and again.
+//! Who holds the spin locks of a board in the course of a run, and who asks for them again and again; and the mutexes.
 
+use crate::mutexes::Mutexes;
 use crate::recording::Known;
 use brd_base::NoMemory;
 use brd_board::{Board, Spin};
+use brd_happening::Happening;
 use brd_names::Spinner;
-use brd_timeline::{Hold, Spinning};
+use brd_timeline::{Hold, Owning, Spinning};
 use std::alloc::Global;
 
 /// Who holds a spin lock, and from which position on.
@@ -36,7 +38,7 @@ struct Asking {
     from: u64,
 }
 
-/// What is recorded of spin locks.
+/// What is recorded of spin locks and mutexes.
 #[derive(Drop)]
 pub struct Locks {
     /// The locks of the board, by ascending number.
@@ -47,9 +49,11 @@ pub struct Locks {
     holds: Vec<Hold>,
     /// Who asked before.
     spins: Vec<Spinning>,
+    /// Who has and had the mutexes.
+    mutexes: Mutexes,
 }
 
-/// What was recorded of spin locks.
+/// What was recorded of spin locks and mutexes.
 #[derive(Drop)]
 pub struct LocksSeen {
     /// The numbers of the locks.
@@ -58,10 +62,14 @@ pub struct LocksSeen {
     pub holds: Vec<Hold>,
     /// Who asked for them.
     pub spins: Vec<Spinning>,
+    /// The numbers of the mutexes that a task had.
+    pub mutexes: Vec<u8>,
+    /// Who had them.
+    pub owned: Vec<Owning>,
 }
 
 impl Locks {
-    /// The spin locks of a board, from a position on.
+    /// The spin locks and mutexes of a board, from a position on.
     pub fn new(alloc: Global, board: &Board, from: u64) -> Result<Locks, NoMemory> {
         let mut locks = Vec::new(alloc);
         for id in 1..256u16 {
@@ -78,11 +86,18 @@ impl Locks {
             asking: Vec::new(alloc),
             holds: Vec::new(alloc),
             spins: Vec::new(alloc),
+            mutexes: Mutexes::new(alloc, board, from)?,
         })
     }
 
-    /// Who holds the locks of a board from a position on: one that is off has no holders.
-    pub fn see(&mut self, board: &Board, at: u64) -> Result<(), NoMemory> {
+    /// Who holds the locks and has the mutexes of a board from a position on, after an event: of one that is off nobody.
+    pub fn see(&mut self, board: &Board, told: &Happening, at: u64) -> Result<(), NoMemory> {
+        self.mutexes.see(board, told, at)?;
+        self.see_holders(board, at)
+    }
+
+    /// Who holds the locks of a board from a position on.
+    fn see_holders(&mut self, board: &Board, at: u64) -> Result<(), NoMemory> {
         for place in 0..self.locks.len() {
             let Some(lock) = self.locks.get(place).copied() else {
                 return Ok(());
@@ -200,7 +215,9 @@ impl Locks {
             asking: _,
             holds,
             spins,
+            mutexes,
         } = self;
+        let (mutexes, owned) = mutexes.end(alloc, to)?;
         let mut ids = Vec::new(alloc);
         for lock in locks.iter() {
             ids.push(lock.id)?;
@@ -209,6 +226,8 @@ impl Locks {
             locks: ids,
             holds,
             spins,
+            mutexes,
+            owned,
         })
     }
 }
