@@ -44,10 +44,12 @@ asking_text (Standing.Task id) = codes "loc_spn("
 asking_text Standing.Idle = codes "loc_spn("
 asking_text Standing.Stopped = codes "loc_spn("
 
+abbrev pub asked_text : Spinner → List ℕ
+asked_text spin =
+    asking_text spin.who ++ signed_text spin.lock ++ named_text (codes "), spins for lock") spin.lock
+
 abbrev pub spins_text : Stretch → Spinner → List ℕ
-spins_text it spin =
-    asking_text spin.who ++ signed_text spin.lock ++ named_text (codes "), spins for lock") spin.lock ++ codes ", "
-    ++ steps_text it
+spins_text it spin = asked_text spin ++ codes ", " ++ steps_text it
 
 abbrev pub raises_text : Stretch → ℕ → List ℕ → List ℕ
 raises_text it line what = named_text (codes "line") line ++ what ++ count_text it.count (codes "raise")

@@ -153,9 +153,7 @@ impl Stretch {
     fn put_spins(&self, alloc: Global, out: &mut Vec<u8>, spin: Spinner) -> Result<(), NoMemory>
         ensures { OnOk result (out.new.items ≡ out.old.items ++ quiets.spins_text self.now spin) }
     {
-        put(out, asking(spin.who))?;
-        put_signed(alloc, out, spin.lock)?;
-        put_named(alloc, out, "), spins for lock", u64::from(spin.lock))?;
+        put_asked(alloc, out, spin)?;
         put(out, ", ")?;
         put_count(alloc, out, self.count, "step")
     }
@@ -196,6 +194,15 @@ impl Stretch {
         put(out, " to ")?;
         put_number(alloc, out, self.tick)
     }
+}
+
+/// Puts at the end the call that comes again, and the lock.
+fn put_asked(alloc: Global, out: &mut Vec<u8>, spin: Spinner) -> Result<(), NoMemory>
+    ensures { OnOk result (out.new.items ≡ out.old.items ++ quiets.asked_text spin) }
+{
+    put(out, asking(spin.who))?;
+    put_signed(alloc, out, spin.lock)?;
+    put_named(alloc, out, "), spins for lock", u64::from(spin.lock))
 }
 
 /// What the call begins with by which a task or a handler asks for a spin lock.
