@@ -16,5 +16,4 @@ returns c =
     on_ok_weaker c.put_named.result
     (λ e. e ∙ (ap (λ (it : List ℕ). it ++ named_text name c.from.result) signs
     ∙ (append_assoc old (call ++ lock) (named_text name c.from.result)
-    ∙ (ap (λ (it : List ℕ). old ++ it) (append_assoc call lock (named_text name c.from.result))
-    ∙ ap (λ (n : ℕ). old ++ (call ++ (lock ++ named_text name n))) c.from.ensures)))) c.put_named.ensures
+    ∙ ap (λ (n : ℕ). old ++ ((call ++ lock) ++ named_text name n)) c.from.ensures))) c.put_named.ensures
