@@ -125,8 +125,8 @@ no_answer_of no_answer.Stopped = Search OutOfTime
 no_answer_of (no_answer.StoppedAfter preemptions) = Search (OutOfTimeAfter preemptions)
 no_answer_of (no_answer.Unknown why) = Search (lazy_fault_of why)
 
--- The time of a search by a plan of the options is over: nothing is known; or no schedule of the plan's shard fails with
--- up to so many preemptions, which are fewer than the plan's, and else within its bounds.
+-- The time of a search by a plan of the options is over: nothing is known; or no schedule of the plan's shard fails
+-- with up to so many preemptions, which are fewer than the plan's, and else within its bounds.
 abbrev pub IsOutOfTime : SearchOptions → Loaded → SearchFault → Type 0
 IsOutOfTime options loaded OutOfTime = Unit {0}
 IsOutOfTime options loaded (OutOfTimeAfter preemptions) =
@@ -137,8 +137,8 @@ IsOutOfTime options loaded _ = ⊥
 
 -- What keeps a search of a board from being told: want of memory, or what is wrong with its options; or its time, if
 -- that is bounded, is over. (No journal of one within bounds is too long: a schedule has a million events at most, and
--- its fair end 20,000 rounds of 129.) Without bounds it is also what isn't known, or a journal of too many events; by lazy
--- schedules what isn't known.
+-- its fair end 20,000 rounds of 129.) Without bounds it is also what isn't known, or a journal of too many events; by
+-- lazy schedules what isn't known.
 abbrev pub KeepsFromSearching : SearchOptions → Loaded → CommandFault → Type 0
 KeepsFromSearching options loaded NoMemory = Unit {0}
 KeepsFromSearching options loaded (Search fault) =

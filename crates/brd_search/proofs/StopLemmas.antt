@@ -4,11 +4,6 @@ use Rattle.std.proofs.lemmas.Bool.{false≢true}
 use Rattle.std.specs.Prelude.{is_some, option_map, Option, Some, None}
 use Rattle.brd_board.specs.declared.event.Event.{Event}
 use Rattle.brd_board.specs.Board.{BoardState}
-use Rattle.brd_explore.specs.Schedules.{start}
-use Rattle.brd_explore.specs.Searching.{HaltsSo}
-use Rattle.brd_explore.specs.Shards.{AnswersInShard}
-use Rattle.brd_lazy.specs.Finding.{FoundSo}
-use Rattle.brd_lazy.specs.declared.finding.Lazily.{Lazily}
 use Rattle.brd_search.specs.Searches.{AnswersWithin, NoneBelow, NoneWithin}
 use Rattle.brd_search.specs.declared.plan.Plan.{Plan}
 

@@ -27,8 +27,8 @@ use Rattle.brd_explore.specs.declared.wanted.Wanted.{Wanted}
 use Rattle.brd_search.specs.Escapes.{bytes_of}
 use Rattle.brd_search.specs.declared.fault.SearchFault.{SearchFault}
 use Rattle.brd_search.specs.declared.fault.SearchFault.TheVariants.{NoMemory, Events, Fair, Remember, Lines, NoLines}
-use Rattle.brd_search.specs.declared.fault.SearchFault.TheVariants.{Twice, NoHandler, Ends, Places, Lazy, Reach, Never, Time}
-use Rattle.brd_search.specs.declared.fault.SearchFault.TheVariants.{Word, NoSymbol, Console, Shard, Threads}
+use Rattle.brd_search.specs.declared.fault.SearchFault.TheVariants.{Twice, NoHandler, Ends, Places, Lazy, Reach}
+use Rattle.brd_search.specs.declared.fault.SearchFault.TheVariants.{Never, Time, Word, NoSymbol, Console, Shard, Threads}
 use Rattle.brd_search.specs.declared.fault.SearchFault.TheVariants.{Raises as BadRaises}
 use Rattle.brd_search.specs.declared.raises.Raises.{Raises}
 use Rattle.brd_search.specs.declared.options.Looks.{Looks}

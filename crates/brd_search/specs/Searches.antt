@@ -20,8 +20,8 @@ pub record AreNotMore (few many : Bounds) : Type 0 where
   pub raises : few.raises ≡ many.raises
   pub owed : few.owed ≡ many.owed
 
--- No schedule of the plan's shard within bounds fails. (By lazy schedules alone that is known of a board whose links are
--- a set, as those of every board are.)
+-- No schedule of the plan's shard within bounds fails. (By lazy schedules alone that is known of a board whose links
+-- are a set, as those of every board are.)
 abbrev pub NoneWithin : Plan → BoardState → Bounds → Type 0
 NoneWithin plan b bounds =
     (0 < plan.lazy → IsLinkSet b.links) → NoneFailsInShard plan.wanted plan.shard plan.among (start b bounds) 0
@@ -52,9 +52,9 @@ abbrev pub IsFewest : Plan → BoardState → Bounds → Option (List Event) →
 IsFewest plan b bounds (Some events) = NoneBelow plan b bounds.preemptions
 IsFewest plan b bounds None = Unit {0}
 
--- Why a search has come to no answer is so: it was stopped only by who may stop it, and where it is said that none fails
--- with up to so many preemptions, which are fewer than the plan's, none of the shard does within the other bounds. By
--- lazy schedules alone is it not known.
+-- Why a search has come to no answer is so: it was stopped only by who may stop it, and where it is said that none
+-- fails with up to so many preemptions, which are fewer than the plan's, none of the shard does within the other bounds.
+-- By lazy schedules alone is it not known.
 abbrev pub StopsSo : Plan → BoardState → Bool → NoAnswer → Type 0
 StopsSo plan b may no_answer.NoMemory = Unit {0}
 StopsSo plan b may no_answer.Stopped = may ≡ true

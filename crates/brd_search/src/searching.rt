@@ -1,7 +1,8 @@
 //! The search itself: with few preemptions first, and then shorter.
 
 ghost use Rattle.std.specs.Prelude.{option_map, ◌≡◌, ◌≤◌, ◌<◌, Bool, true, false, IfErr, IfOk, IfSome, IfNone};
-ghost use Rattle.brd_search.specs.Searches.{Answers, AnswersWithin, IsFewer, IsFewest, IsLeast, IsShortest, NoneBelow, StopsSo};
+ghost use Rattle.brd_search.specs.Searches.{Answers, AnswersWithin, IsFewer, IsFewest, IsLeast, IsShortest, NoneBelow};
+ghost use Rattle.brd_search.specs.Searches.{StopsSo};
 ghost use Rattle.brd_search.specs.declared.plan.Plan.{Plan as PlanOf};
 ghost use Rattle.brd_board.specs.Board.{BoardState as BoardOf};
 ghost use Rattle.brd_explore.specs.Searching.{HaltsSo};
@@ -127,8 +128,8 @@ fn with_fewest<T: Threads + Sync, W: Watch + Send>(
 
 /// Why there is no answer, if it is known that none fails with fewer preemptions than these.
 fn no_answer(why: NoAnswer, preemptions: u32) -> NoAnswer
-    ensures { (plan : PlanOf) (b : BoardOf) (may : Bool) → StopsSo plan b may why → preemptions ≤ plan.bounds.preemptions →
-        NoneBelow plan b preemptions → StopsSo plan b may result }
+    ensures { (plan : PlanOf) (b : BoardOf) (may : Bool) → StopsSo plan b may why →
+        preemptions ≤ plan.bounds.preemptions → NoneBelow plan b preemptions → StopsSo plan b may result }
 {
     match why {
         NoAnswer::Stopped if preemptions > 0 => NoAnswer::StoppedAfter(preemptions - 1),
