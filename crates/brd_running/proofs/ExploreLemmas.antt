@@ -19,7 +19,7 @@ use Rattle.brd_board.specs.Board.{BoardState}
 use Rattle.brd_places.specs.declared.left.Left.{Left}
 use Rattle.brd_reach.specs.Reaching.{ReachedSo}
 use Rattle.brd_reach.specs.declared.searching.Reached.TheVariants as reached
-use Rattle.brd_running.specs.ExploreCommand.{IsExplored, IsReached, IsTold, IsUntoldOfAll, KeepsFromExploring}
+use Rattle.brd_running.specs.ExploreCommand.{IsExplored, IsReached, IsTold, IsUnknown, IsUntoldOfAll, KeepsFromExploring}
 use Rattle.brd_reach.specs.declared.unknown.Unknown.{Unknown}
 use Rattle.brd_reach.specs.declared.unknown.Unknown.TheVariants as unknown
 use Rattle.brd_running.specs.ExploreCommand.{KeepsFromSearching, Tells, left_by, lazy_fault_of, no_answer_of}
