@@ -3,8 +3,8 @@
 ghost use Rattle.std.specs.Prelude.{◌<◌};
 
 use super::sources::{
-    APART, DEADLOCK, LONG, LOOP, LOST_UPDATE, PETERSON, PETERSON_SWAPPED, REPAIRED, SAMPLED, STARTED,
-    STOPPED, TWO,
+    APART, DEADLOCK, LONG, LOOP, LOST_UPDATE, PETERSON, PETERSON_SWAPPED, REPAIRED, SAMPLED,
+    STARTED, STOPPED, TWO,
 };
 use brd_base::List;
 use brd_board::{Board, Event};
