@@ -128,7 +128,8 @@ without() {
     while [ $# -gt 0 ]; do
         case $1 in
         --shortest) ;;
-        --events | --preemptions | --ticks | --raises | --lines | --shard | --remember | --threads | --time) shift ;;
+        --events | --preemptions | --ticks | --raises | --lines) shift ;;
+        --shard | --remember | --threads | --time | --lazy) shift ;;
         *) options+=("$1") ;;
         esac
         shift
@@ -176,6 +177,46 @@ while IFS='|' read -r source config words told how; do
         fair=0
         case $words in *--fair*) fair=1 ;; esac
         verdict "explore: $source $words" "$(is_none "${answer[1]}" "$(bounds "${given[@]}")" $got "${answer[2]:-}")"
+    fi
+done < $examples/cases
+
+# ---- The lazy schedules alone: they come to the same, with as few preemptions.
+
+# lazily OPTION..: the same options without those that such a search doesn't know.
+lazily() {
+    options=()
+    while [ $# -gt 0 ]; do
+        case $1 in
+        --shard | --remember | --threads) shift ;;
+        *) options+=("$1") ;;
+        esac
+        shift
+    done
+}
+
+# is_lazily_none BOUNDS STATUS: what is wrong with such a search that should have found none.
+is_lazily_none() {
+    [ "$2" = 0 ] || echo -n "; status $2, wanted 0: $(head -c 300 "$work/err")"
+    [ ! -s "$work/err" ] || echo -n "; standard error is '$(head -c 300 "$work/err")'"
+    [ "$(head -n 1 "$work/out")" = "none of the schedules fails: $1" ] &&
+        sed -n 2p "$work/out" | grep -q '^looked for: .' &&
+        sed -n 3p "$work/out" | grep -qE '^[0-9]+ places? w(as|ere) gone through, (1 is an end|[0-9]+ are ends)$' ||
+        echo -n "; it says '$(head -c 300 "$work/out")'"
+}
+
+while IFS='|' read -r source config words told how; do
+    case $source,$words in '#'* | ,* | *--fair*) continue ;; esac
+    assembled "$source"
+    read -ra given <<< "$words"
+    read -ra answer <<< "$told"
+    lazily "${given[@]}"
+    if [ "${answer[0]}" = found ]; then
+        finds "$source $words, lazily" "$examples/$config" "${answer[1]}" "${answer[2]:-}" "$how" \
+            "${options[@]}" --lazy 1000000
+    else
+        explores "$image" "$examples/$config" "${options[@]}" --lazy 1000000
+        got=$?
+        verdict "explore: $source $words, lazily" "$(is_lazily_none "$(bounds "${given[@]}")" $got)"
     fi
 done < $examples/cases
 
@@ -600,6 +641,10 @@ for option in "--fair 1" "--remember 1" "--shard 1/1" --shortest "--threads 2" "
     refuses "--places goes with none of --fair, --remember, --shard, --shortest, --threads and --time" --places 10 $option
 done
 refuses "not known: there are more than --places places" --places 1
+for option in "--fair 1" "--remember 1" "--shard 1/1" "--threads 2" "--places 10"; do
+    refuses "--lazy goes with none of --fair, --places, --remember, --shard and --threads" --lazy 10 $option
+done
+refuses "not known: there are more than --lazy places" --lazy 1
 refuses "--livelock and --finals go with --places" --livelock
 refuses "--livelock and --finals go with --places" --finals
 refuses "--remember is a number of MiB from 0 to 4,096" --remember 4097

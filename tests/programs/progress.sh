@@ -108,6 +108,18 @@ input=/dev/null
 shows "Ctrl-C in a search" 130 shown '(\\r[0-9]+ schedules tried, none fails so far\\x1b\[K)+.*' \
     explore "$work/dining" examples/explore/philosophers.cfg --preemptions 3
 
+# By lazy schedules it is told how many places were gone through. Two tasks that count come to new ones for ever.
+printf '%s\n' 'count: .word 0' 'main: lui $s0, %hi(count)' 'again: lw $t0, %lo(count)($s0)' 'addiu $t0, $t0, 1' \
+    'j again' 'sw $t0, %lo(count)($s0)' > "$work/source"
+"$board" asm "$work/source" "$work/counting"
+echo 'BOARD(2, 0x10000);' > "$work/both"
+for cpu in 1 2; do
+    echo "CLASS(TCL_$cpu) { CRE_TSK($cpu, {TA_ACT, 0, main, 1, 256, NULL}); }"
+done >> "$work/both"
+shows "Ctrl-C in a search by lazy schedules" 130 shown \
+    '(\\r[0-9]+ places gone through, none fails so far\\x1b\[K)+.*' \
+    explore "$work/counting" "$work/both" --events 1000000 --lazy 4000000000
+
 # ---- race: stores take the longest, since no lease does them; the journal has room for a run for each event
 
 {

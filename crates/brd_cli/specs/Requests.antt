@@ -154,6 +154,7 @@ AreSearchOptions rows options = AreSizes rows options.sizes
     × IsNumberOr 0 (one_of (codes "PLACES") rows) options.places
     × IsFlag (one_of (codes "livelock") rows) options.livelock
     × IsFlag (one_of (codes "finals") rows) options.finals
+    × IsNumberOr 0 (one_of (codes "MOST") rows) options.lazy
 
 -- the request of `explore`
 abbrev pub IsExplore : List Row → Option Request → Type 0

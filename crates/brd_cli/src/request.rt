@@ -302,6 +302,7 @@ fn search_options_of<'a>(arguments: &ArgMatches<'a>) -> SearchOptions<'a>
         places: number_or(arguments, "PLACES", 0),
         livelock: flag_of(arguments, "livelock"),
         finals: flag_of(arguments, "finals"),
+        lazy: number_or(arguments, "MOST", 0),
     }
 }
 

@@ -39,6 +39,8 @@ pub struct Screen<'a> {
     /// How long after that it is shown next.
     due: Duration,
     is_shown: bool,
+    /// Whether a search counts places, and not schedules.
+    counts_places: bool,
     /// Who reads advice.
     reader: Reader,
     /// Whether a command has begun.
@@ -46,12 +48,13 @@ pub struct Screen<'a> {
 }
 
 impl<'a> Screen<'a> {
-    /// The line of a program that begins now. It is told where it is seen whether work is to stop, and whether the
-    /// program has a dialogue by standard input.
+    /// The line of a program that begins now. It is told where it is seen whether work is to stop, whether the program
+    /// has a dialogue by standard input, and whether a search counts places.
     pub fn new(
         rt: &'a HostRuntime,
         inbox: Option<Arc<Inbox, Global>>,
         is_dialogue: bool,
+        counts_places: bool,
     ) -> Screen<'a> {
         let began = Instant::now(rt).ok();
         Screen {
@@ -65,6 +68,7 @@ impl<'a> Screen<'a> {
             },
             due: Duration::from_millis(PATIENCE),
             is_shown: false,
+            counts_places,
             reader: if !is_dialogue {
                 Reader::NoDialogue
             } else if rt.stdin().is_terminal() {
@@ -114,10 +118,16 @@ impl<'a> Progress for Screen<'a> {
     }
 
     /// Writes the line anew, where it is time for that.
-    fn tried(&mut self, schedules: u64) {
-        if self.is_due() {
-            let _ = eprint!(self.rt; "\r{schedules} schedules tried, none fails so far\x1b[K");
+    fn tried(&mut self, count: u64) {
+        if !self.is_due() {
+            return;
         }
+        let what = if self.counts_places {
+            "places gone through"
+        } else {
+            "schedules tried"
+        };
+        let _ = eprint!(self.rt; "\r{count} {what}, none fails so far\x1b[K");
     }
 
     /// By what GDB sends while a move is on.

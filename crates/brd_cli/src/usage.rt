@@ -121,6 +121,7 @@ and so on. A schedule is a list of events. A preemption is a step that leaves an
 could go on. Unless it is said what fails, an exception or a deadlock does. If a schedule fails, it
 is told, OUT gets its journal, and the status is 5; if none does, that is told, and it is 0.
 With --places there is no bound on events and preemptions: all schedules are searched.
+With --lazy far fewer schedules are searched within the bounds; what is told is of all of them.
 
 Example, from the top of the repository:
   board asm examples/lost_update/racy.s build/racy.elf
@@ -592,6 +593,12 @@ fn with_search<'a>(alloc: Global, command: Command<'a>) -> Result<Command<'a>, N
             alloc,
             "finals",
             "With --places: if none fails, lists the consoles of all ends",
+        ))?
+        .arg(count(
+            alloc,
+            "MOST",
+            "lazy",
+            "Searches the lazy schedules alone; goes through so many places at most",
         ))?
         .arg(option(
             alloc,

@@ -19,8 +19,10 @@ use Rattle.brd_board.specs.Board.{BoardState}
 use Rattle.brd_places.specs.declared.left.Left.{Left}
 use Rattle.brd_reach.specs.Reaching.{ReachedSo}
 use Rattle.brd_reach.specs.declared.searching.Reached.TheVariants as reached
-use Rattle.brd_running.specs.ExploreCommand.{IsExplored, IsReached, IsTold, IsUntoldOfAll, KeepsFromExploring}
-use Rattle.brd_running.specs.ExploreCommand.{KeepsFromSearching, Tells, left_by, no_answer_of}
+use Rattle.brd_running.specs.ExploreCommand.{IsExplored, IsReached, IsTold, IsUnknown, IsUntoldOfAll, KeepsFromExploring}
+use Rattle.brd_reach.specs.declared.unknown.Unknown.{Unknown}
+use Rattle.brd_reach.specs.declared.unknown.Unknown.TheVariants as unknown
+use Rattle.brd_running.specs.ExploreCommand.{KeepsFromSearching, Tells, left_by, lazy_fault_of, no_answer_of}
 use Rattle.brd_running.specs.Saving.{IsOfJournal}
 use Rattle.brd_running.specs.declared.explore_command.Told.{Told}
 use Rattle.brd_running.proofs.SavingLemmas.{of_search}
@@ -75,14 +77,23 @@ told_found options loaded plan bounds events (Err fault) none planned few answer
 timed : (time : ℕ) → not (time == 0) ≡ true → 0 < time
 timed time is = grind (arith, nat_tests, is)
 
+isnt-known : (why : Unknown) → IsUnknown (lazy_fault_of why)
+isnt-known unknown.Places = tt
+isnt-known unknown.Long = tt
+isnt-known unknown.Rounds = tt
+isnt-known unknown.Fair = tt
+isnt-known unknown.Waits = tt
+
 pub out-of-time : (options : SearchOptions) (loaded : Loaded) (plan : Plan) (why : NoAnswer) →
     IsPlan options loaded.board (processors_of loaded.board) loaded.image.symbols plan →
     StopsSo plan loaded.board (not (plan.time == 0)) why → KeepsFromSearching options loaded (no_answer_of why)
 out-of-time options loaded plan no_answer.NoMemory planned stops = tt
 out-of-time options loaded plan no_answer.Stopped planned stops =
-    inr (inr (subst (λ (n : ℕ). 0 < n) planned.time (timed plan.time stops), tt))
+    inr (inr (inl (subst (λ (n : ℕ). 0 < n) planned.time (timed plan.time stops), tt)))
 out-of-time options loaded plan (no_answer.StoppedAfter preemptions) planned stops =
-    inr (inr (subst (λ (n : ℕ). 0 < n) planned.time (timed plan.time stops.0), (plan, planned, stops.1, stops.2)))
+    inr (inr (inl (subst (λ (n : ℕ). 0 < n) planned.time (timed plan.time stops.0), (plan, planned, stops.1, stops.2))))
+out-of-time options loaded plan (no_answer.Unknown why) planned stops =
+    inr (inr (inr (subst (λ (n : ℕ). 0 < n) planned.lazy stops, isnt-known why)))
 
 -- A search without bounds.
 

@@ -18,11 +18,13 @@ use Rattle.brd_reach.specs.Endless.{NeverEnds, rest_of}
 use Rattle.brd_reach.specs.Reaching.{ReachedSo}
 use Rattle.brd_reach.specs.declared.searching.Reached.{Reached}
 use Rattle.brd_reach.specs.declared.searching.Reached.TheVariants as reached
+use Rattle.brd_reach.specs.declared.unknown.Unknown.{Unknown}
+use Rattle.brd_reach.specs.declared.unknown.Unknown.TheVariants as unknown
 use Rattle.brd_search.specs.Plans.{IsPlan, KeepsFromPlanning}
 use Rattle.brd_search.specs.Searches.{Answers, IsFewest, IsShortest, NoneWithin}
 use Rattle.brd_search.specs.Shown.{shown}
 use Rattle.brd_search.specs.declared.fault.SearchFault.{SearchFault}
-use Rattle.brd_search.specs.declared.fault.SearchFault.TheVariants.{LongBlock, MorePlaces, OverInput}
+use Rattle.brd_search.specs.declared.fault.SearchFault.TheVariants.{LongBlock, MoreLazy, MorePlaces, OverInput}
 use Rattle.brd_search.specs.declared.fault.SearchFault.TheVariants.{OutOfTime, OutOfTimeAfter, Unlearned}
 use Rattle.brd_search.specs.declared.searching.NoAnswer.{NoAnswer}
 use Rattle.brd_search.specs.declared.searching.NoAnswer.TheVariants as no_answer
@@ -97,9 +99,10 @@ pub record IsTold (options : SearchOptions) (loaded : Loaded) (text : List ℕ) 
   pub within : plan.places ≡ 0 → IsSearched plan loaded.board text journal
   pub all : 0 < plan.places → IsReached plan loaded.board text journal
 
--- what keeps a search without bounds from an answer
+-- what keeps a search through places from an answer
 abbrev pub IsUnknown : SearchFault → Type 0
 IsUnknown MorePlaces = Unit {0}
+IsUnknown MoreLazy = Unit {0}
 IsUnknown LongBlock = Unit {0}
 IsUnknown Unlearned = Unit {0}
 IsUnknown _ = ⊥
@@ -109,14 +112,21 @@ abbrev pub IsUntoldOfAll : CommandFault → Type 0
 IsUntoldOfAll fault =
     (fault ≡ NoMemory) ⊎ ((fault ≡ Schedule TooLong) ⊎ ((why : SearchFault) × (fault ≡ Search why) × IsUnknown why))
 
+-- the fault of a search by lazy schedules that hasn't found whether one fails
+abbrev pub lazy_fault_of : Unknown → SearchFault
+lazy_fault_of unknown.Places = MoreLazy
+lazy_fault_of unknown.Long = LongBlock
+lazy_fault_of _ = Unlearned
+
 -- the fault of a search within bounds that has come to no answer
 abbrev pub no_answer_of : NoAnswer → CommandFault
 no_answer_of no_answer.NoMemory = NoMemory
 no_answer_of no_answer.Stopped = Search OutOfTime
 no_answer_of (no_answer.StoppedAfter preemptions) = Search (OutOfTimeAfter preemptions)
+no_answer_of (no_answer.Unknown why) = Search (lazy_fault_of why)
 
--- The time of a search by a plan of the options is over: nothing is known; or no schedule of the plan's shard fails with
--- up to so many preemptions, which are fewer than the plan's, and else within its bounds.
+-- The time of a search by a plan of the options is over: nothing is known; or no schedule of the plan's shard fails
+-- with up to so many preemptions, which are fewer than the plan's, and else within its bounds.
 abbrev pub IsOutOfTime : SearchOptions → Loaded → SearchFault → Type 0
 IsOutOfTime options loaded OutOfTime = Unit {0}
 IsOutOfTime options loaded (OutOfTimeAfter preemptions) =
@@ -127,12 +137,14 @@ IsOutOfTime options loaded _ = ⊥
 
 -- What keeps a search of a board from being told: want of memory, or what is wrong with its options; or its time, if
 -- that is bounded, is over. (No journal of one within bounds is too long: a schedule has a million events at most, and
--- its fair end 20,000 rounds of 129.) Without bounds it is also what isn't known, or a journal of too many events.
+-- its fair end 20,000 rounds of 129.) Without bounds it is also what isn't known, or a journal of too many events; by
+-- lazy schedules what isn't known.
 abbrev pub KeepsFromSearching : SearchOptions → Loaded → CommandFault → Type 0
 KeepsFromSearching options loaded NoMemory = Unit {0}
 KeepsFromSearching options loaded (Search fault) =
     KeepsFromPlanning options loaded.board (processors_of loaded.board) loaded.image.symbols fault
-    ⊎ (((0 < options.places) × IsUnknown fault) ⊎ ((0 < options.time) × IsOutOfTime options loaded fault))
+    ⊎ (((0 < options.places) × IsUnknown fault)
+    ⊎ (((0 < options.time) × IsOutOfTime options loaded fault) ⊎ ((0 < options.lazy) × IsUnknown fault)))
 KeepsFromSearching options loaded (Schedule TooLong) = 0 < options.places
 KeepsFromSearching options loaded _ = ⊥
 

@@ -4,7 +4,7 @@ ghost use Rattle.std.specs.Prelude.{◌≡◌, ◌++◌, ◌<◌, ◌==◌, code
 ghost use Rattle.std.specs.Prelude.{IfErr, IfOk, IfSome, MatchResult, None, Some};
 ghost use Rattle.brd_running.specs.ExploreCommand.{ExploreFilesEnd, IsExplored, IsTold, KeepsFromSearching};
 ghost use Rattle.brd_running.specs.ExploreCommand.{Begins, KeepsFromExploring, Tells, failed};
-ghost use Rattle.brd_running.specs.ExploreCommand.{no_answer_of};
+ghost use Rattle.brd_running.specs.ExploreCommand.{lazy_fault_of, no_answer_of};
 ghost use Rattle.brd_search.specs.Searches.{Answers, IsFewest, IsShortest, StopsSo};
 ghost use Rattle.brd_running.specs.ExploreCommand.{IsReached, IsUnknown, IsUntoldOfAll, left_by};
 ghost use Rattle.brd_running.specs.ExploreCommand.{IsHopeless, TellsHeld, TellsHung};
@@ -195,6 +195,18 @@ fn no_answer_of(why: NoAnswer) -> CommandFault
         NoAnswer::StoppedAfter(preemptions) => {
             CommandFault::Search(SearchFault::OutOfTimeAfter { preemptions })
         }
+        NoAnswer::Unknown(why) => CommandFault::Search(lazy_fault_of(why)),
+    }
+}
+
+/// The fault of a search by lazy schedules that hasn't found whether one fails.
+fn lazy_fault_of(why: Unknown) -> SearchFault
+    ensures { result ≡ lazy_fault_of why }
+{
+    match why {
+        Unknown::Places => SearchFault::MoreLazy,
+        Unknown::Long => SearchFault::LongBlock,
+        Unknown::Rounds | Unknown::Fair | Unknown::Waits => SearchFault::Unlearned,
     }
 }
 

@@ -27,8 +27,8 @@ use Rattle.brd_explore.specs.declared.wanted.Wanted.{Wanted}
 use Rattle.brd_search.specs.Escapes.{bytes_of}
 use Rattle.brd_search.specs.declared.fault.SearchFault.{SearchFault}
 use Rattle.brd_search.specs.declared.fault.SearchFault.TheVariants.{NoMemory, Events, Fair, Remember, Lines, NoLines}
-use Rattle.brd_search.specs.declared.fault.SearchFault.TheVariants.{Twice, NoHandler, Ends, Places, Reach, Never, Time}
-use Rattle.brd_search.specs.declared.fault.SearchFault.TheVariants.{Word, NoSymbol, Console, Shard, Threads}
+use Rattle.brd_search.specs.declared.fault.SearchFault.TheVariants.{Twice, NoHandler, Ends, Places, Lazy, Reach}
+use Rattle.brd_search.specs.declared.fault.SearchFault.TheVariants.{Never, Time, Word, NoSymbol, Console, Shard, Threads}
 use Rattle.brd_search.specs.declared.fault.SearchFault.TheVariants.{Raises as BadRaises}
 use Rattle.brd_search.specs.declared.raises.Raises.{Raises}
 use Rattle.brd_search.specs.declared.options.Looks.{Looks}
@@ -407,6 +407,16 @@ places_fit options = if options.places == 0 then not (options.livelock || option
 abbrev pub time_fits : SearchOptions → Bool
 time_fits options = not (options.shortest && not (options.time == 0))
 
+-- options ask for nothing that a search by the lazy schedules alone doesn't know
+abbrev pub is_simple : SearchOptions → Bool
+is_simple options =
+    not (is_some (text_of options.shard)) && options.sizes.fair == 0 && options.remember == 0 && options.threads == 0
+    && options.places == 0
+
+-- they don't ask for such a search, or for nothing else
+abbrev pub lazy_fits : SearchOptions → Bool
+lazy_fits options = options.lazy == 0 || is_simple options
+
 -- A plan is what options ask for, on a board of so many processors whose image has these symbols. Each line that may be
 -- raised has a handler there, and is named once.
 pub record IsPlan (options : SearchOptions) (b : BoardState) (cpus : ℕ) (symbols : List Symbol) (plan : Plan) : Type 0
@@ -429,8 +439,10 @@ pub record IsPlan (options : SearchOptions) (b : BoardState) (cpus : ℕ) (symbo
     pub places : plan.places ≡ options.places
     pub livelock : plan.livelock ≡ options.livelock
     pub finals : plan.finals ≡ options.finals
+    pub lazy : plan.lazy ≡ options.lazy
     pub plain : places_fit options ≡ true
     pub timely : time_fits options ≡ true
+    pub simple : lazy_fits options ≡ true
 
 -- The lines of `--lines` aren't those of the raises, for this reason.
 pub record HaveNoLines (options : SearchOptions) (fault : SearchFault) : Type 0 where
@@ -459,6 +471,7 @@ KeepsFromPlanning options b cpus symbols Shard = shard_of (text_of options.shard
 KeepsFromPlanning options b cpus symbols Places = (0 < options.places) × (is_plain options ≡ false)
 KeepsFromPlanning options b cpus symbols Ends = (options.places ≡ 0) × ((options.livelock || options.finals) ≡ true)
 KeepsFromPlanning options b cpus symbols Time = time_fits options ≡ false
+KeepsFromPlanning options b cpus symbols Lazy = lazy_fits options ≡ false
 KeepsFromPlanning options b cpus symbols fault = KeepsFromWanting options.looks options.sizes.fair symbols fault
 
 -- Only private contracts name the next ones.
@@ -478,6 +491,11 @@ IsOfEnds asked _ = ⊥
 abbrev pub IsOfTime : Bool → SearchFault → Type 0
 IsOfTime fits Time = fits ≡ false
 IsOfTime fits _ = ⊥
+
+-- lazy schedules don't fit
+abbrev pub IsOfLazy : Bool → SearchFault → Type 0
+IsOfLazy fits Lazy = fits ≡ false
+IsOfLazy fits _ = ⊥
 
 -- the bounds that options give, whose numbers are within limits
 pub record IsSized (options : SearchOptions) (said : Raises) (bounds : Bounds) : Type 0 where

@@ -1,5 +1,6 @@
 -- What a search answers.
 use Rattle.std.specs.Prelude.{◌≡◌, ◌⊎◌, ℕ, ◌-◌, ◌≤◌, ◌<◌, min, Bool, true, List, length, Option, Some, None}
+use Rattle.brd_link.specs.LinkSet.{IsLinkSet}
 use Rattle.brd_board.specs.declared.event.Event.{Event}
 use Rattle.brd_board.specs.Board.{BoardState}
 use Rattle.brd_explore.specs.declared.bounds.Bounds.{Bounds}
@@ -19,9 +20,16 @@ pub record AreNotMore (few many : Bounds) : Type 0 where
   pub raises : few.raises ≡ many.raises
   pub owed : few.owed ≡ many.owed
 
--- no schedule of the plan's shard within bounds fails
+-- No schedule of the plan's shard within bounds fails. (By lazy schedules alone that is known of a board whose links
+-- are a set, as those of every board are.)
 abbrev pub NoneWithin : Plan → BoardState → Bounds → Type 0
-NoneWithin plan b bounds = NoneFailsInShard plan.wanted plan.shard plan.among (start b bounds) 0
+NoneWithin plan b bounds =
+    (0 < plan.lazy → IsLinkSet b.links) → NoneFailsInShard plan.wanted plan.shard plan.among (start b bounds) 0
+
+-- what a search within bounds has answered
+abbrev pub AnswersWithin : Plan → BoardState → Bounds → Option (List Event) → Type 0
+AnswersWithin plan b bounds (Some events) = IsFound plan.wanted plan.among (start b bounds) events
+AnswersWithin plan b bounds None = NoneWithin plan b bounds
 
 -- a schedule that was found is within bounds, which are not more than the plan's, and fails
 pub record FailsWithin (plan : Plan) (b : BoardState) (bounds : Bounds) (events : List Event) : Type 0 where
@@ -44,11 +52,13 @@ abbrev pub IsFewest : Plan → BoardState → Bounds → Option (List Event) →
 IsFewest plan b bounds (Some events) = NoneBelow plan b bounds.preemptions
 IsFewest plan b bounds None = Unit {0}
 
--- Why a search has come to no answer is so: it was stopped only by who may stop it, and where it is said that none fails
--- with up to so many preemptions, which are fewer than the plan's, none of the shard does within the other bounds.
+-- Why a search has come to no answer is so: it was stopped only by who may stop it, and where it is said that none
+-- fails with up to so many preemptions, which are fewer than the plan's, none of the shard does within the other bounds.
+-- By lazy schedules alone is it not known.
 abbrev pub StopsSo : Plan → BoardState → Bool → NoAnswer → Type 0
 StopsSo plan b may no_answer.NoMemory = Unit {0}
 StopsSo plan b may no_answer.Stopped = may ≡ true
+StopsSo plan b may (no_answer.Unknown why) = 0 < plan.lazy
 StopsSo plan b may (no_answer.StoppedAfter preemptions) =
     (may ≡ true) × (preemptions < plan.bounds.preemptions)
     × NoneWithin plan b (record plan.bounds { preemptions = preemptions })

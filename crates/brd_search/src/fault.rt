@@ -69,6 +69,9 @@ pub enum SearchFault {
     /// A search that may take so many seconds is to find the shortest schedule.
     #[error("--time doesn't go with --shortest")]
     Time,
+    /// A search by lazy schedules is to do what it doesn't know.
+    #[error("--lazy goes with none of --fair, --places, --remember, --shard and --threads")]
+    Lazy,
     /// The time of a search is over, and of no schedule it is known whether it fails.
     #[error("not known: --time is over")]
     OutOfTime,
@@ -81,6 +84,9 @@ pub enum SearchFault {
     /// A search without bounds has come to no answer: there are more places.
     #[error("not known: there are more than --places places")]
     MorePlaces,
+    /// A search by lazy schedules has come to no answer: there are more places.
+    #[error("not known: there are more than --lazy places")]
+    MoreLazy,
     /// There is a block nearly without end, which isn't a loop.
     #[error("not known: a processor executes 16,777,216 instructions in a row that no other can see")]
     LongBlock,

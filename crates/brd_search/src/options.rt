@@ -60,4 +60,6 @@ pub struct SearchOptions<'a> {
     pub livelock: bool,
     /// Whether such a search, if none fails, lists the consoles of all ends.
     pub finals: bool,
+    /// Through how many places a search goes at most within bounds, by the lazy schedules alone; 0: by all schedules.
+    pub lazy: u32,
 }

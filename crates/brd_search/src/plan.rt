@@ -4,6 +4,7 @@ ghost use Rattle.std.specs.Prelude.{MatchResult};
 ghost use Rattle.std.specs.Prelude.{◌≡◌, true, false};
 ghost use Rattle.brd_search.specs.Plans.{IsPlan, KeepsFromPlanning, IsSized, IsOfSizes, IsShard, IsNoShard, text_of};
 ghost use Rattle.brd_search.specs.Plans.{DontFit, IsOfEnds, IsOfTime, is_plain, places_fit, time_fits};
+ghost use Rattle.brd_search.specs.Plans.{IsOfLazy, is_simple, lazy_fits};
 
 use crate::coming::{check_lines, may_come};
 use crate::fault::SearchFault;
@@ -53,6 +54,8 @@ pub struct Plan {
     pub livelock: bool,
     /// Whether such a search, if none fails, lists the consoles of all ends.
     pub finals: bool,
+    /// Through how many places a search goes at most within bounds, by the lazy schedules alone; 0: by all schedules.
+    pub lazy: u32,
 }
 
 /// Written out, so that a function that lets one go is proved with a call.
@@ -70,6 +73,7 @@ impl Drop for Plan {
             places: _,
             livelock: _,
             finals: _,
+            lazy: _,
         } = self;
     }
 }
@@ -91,6 +95,7 @@ pub fn plan_of(
 {
     check_places(options)?;
     check_time(options)?;
+    check_lazy(options)?;
     let raises = raises_of(options.raises)?;
     let bounds = bounds_of(options, raises)?;
     let shard = shard_of(options.shard)?;
@@ -109,6 +114,7 @@ pub fn plan_of(
         places: options.places,
         livelock: options.livelock,
         finals: options.finals,
+        lazy: options.lazy,
     })
 }
 
@@ -144,6 +150,34 @@ fn check_time(options: &SearchOptions<'_>) -> Result<(), SearchFault>
         return Err(SearchFault::Time);
     }
     Ok(())
+}
+
+/// A search by the lazy schedules alone goes through the whole within bounds, by one thread, and to no fair end.
+fn check_lazy(options: &SearchOptions<'_>) -> Result<(), SearchFault>
+    ensures { MatchResult result (λ _. lazy_fits options.now ≡ true) (IsOfLazy (lazy_fits options.now)) }
+{
+    if lazy_fits(options) {
+        return Ok(());
+    }
+    Err(SearchFault::Lazy)
+}
+
+/// Whether options ask for no such search, or for nothing that it doesn't know.
+fn lazy_fits(options: &SearchOptions<'_>) -> bool
+    ensures { result ≡ lazy_fits options.now }
+{
+    options.lazy == 0 || is_simple(options)
+}
+
+/// Whether options ask for nothing that such a search doesn't know.
+fn is_simple(options: &SearchOptions<'_>) -> bool
+    ensures { result ≡ is_simple options.now }
+{
+    options.shard.is_none()
+        && options.sizes.fair == 0
+        && options.remember == 0
+        && options.threads == 0
+        && options.places == 0
 }
 
 /// Whether options ask for nothing that a search without bounds doesn't know.

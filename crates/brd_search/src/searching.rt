@@ -1,18 +1,19 @@
 //! The search itself: with few preemptions first, and then shorter.
 
 ghost use Rattle.std.specs.Prelude.{option_map, ◌≡◌, ◌≤◌, ◌<◌, Bool, true, false, IfErr, IfOk, IfSome, IfNone};
-ghost use Rattle.brd_search.specs.Searches.{Answers, IsFewer, IsFewest, IsLeast, IsShortest, NoneBelow, StopsSo};
+ghost use Rattle.brd_search.specs.Searches.{Answers, AnswersWithin, IsFewer, IsFewest, IsLeast, IsShortest, NoneBelow};
+ghost use Rattle.brd_search.specs.Searches.{StopsSo};
 ghost use Rattle.brd_search.specs.declared.plan.Plan.{Plan as PlanOf};
 ghost use Rattle.brd_board.specs.Board.{BoardState as BoardOf};
-ghost use Rattle.brd_explore.specs.Schedules.{start};
 ghost use Rattle.brd_explore.specs.Searching.{HaltsSo};
-ghost use Rattle.brd_explore.specs.Shards.{AnswersInShard};
 
 use crate::plan::Plan;
 use brd_base::NoMemory;
 use brd_board::{Board, Event};
 use brd_crew::find_by_threads;
 use brd_explore::{Bounds, Counts, Found, Halt, Watch};
+use brd_lazy::{Gone, Lazily, find_lazily};
+use brd_reach::Unknown;
 use std::alloc::Global;
 use std::thread::Threads;
 
@@ -23,7 +24,8 @@ pub struct Searched {
     pub schedule: Option<Vec<Event>>,
     /// The bounds within which it was found; those of the whole search where none was.
     pub bounds: Bounds,
-    /// The schedules that were searched: all of those within the bounds if none was found.
+    /// The schedules that were searched: all of those within the bounds if none was found. By the lazy ones alone the
+    /// places.
     pub counts: Counts,
 }
 
@@ -37,6 +39,8 @@ pub enum NoAnswer {
     /// Who watches wanted no more of it: none fails with up to so many preemptions, which are fewer than were asked
     /// for.
     StoppedAfter(u32),
+    /// By the lazy schedules alone it isn't known, for this reason.
+    Unknown(Unknown),
 }
 
 impl From<NoMemory> for NoAnswer {
@@ -100,7 +104,7 @@ fn with_fewest<T: Threads + Sync, W: Watch + Send>(
         };
         let searched = match within(rt, alloc, board, plan, bounds, watch) {
             Ok(searched) => searched,
-            Err(halt) => return Err(no_answer(halt, preemptions)),
+            Err(why) => return Err(no_answer(why, preemptions)),
         };
         if searched.schedule.is_some() {
             return Ok(searched);
@@ -109,7 +113,7 @@ fn with_fewest<T: Threads + Sync, W: Watch + Send>(
         if searched.counts.spare > 0 {
             let whole = match within(rt, alloc, board, plan, plan.bounds, watch) {
                 Ok(whole) => whole,
-                Err(halt) => return Err(no_answer(halt, preemptions + 1)),
+                Err(why) => return Err(no_answer(why, preemptions + 1)),
             };
             if whole.schedule.is_none() {
                 return Ok(whole);
@@ -123,14 +127,13 @@ fn with_fewest<T: Threads + Sync, W: Watch + Send>(
 }
 
 /// Why there is no answer, if it is known that none fails with fewer preemptions than these.
-fn no_answer(halt: Halt, preemptions: u32) -> NoAnswer
-    ensures { (plan : PlanOf) (b : BoardOf) (may : Bool) → HaltsSo may halt → preemptions ≤ plan.bounds.preemptions →
-        NoneBelow plan b preemptions → StopsSo plan b may result }
+fn no_answer(why: NoAnswer, preemptions: u32) -> NoAnswer
+    ensures { (plan : PlanOf) (b : BoardOf) (may : Bool) → StopsSo plan b may why →
+        preemptions ≤ plan.bounds.preemptions → NoneBelow plan b preemptions → StopsSo plan b may result }
 {
-    match halt {
-        Halt::NoMemory => NoAnswer::NoMemory,
-        Halt::Stopped if preemptions == 0 => NoAnswer::Stopped,
-        Halt::Stopped => NoAnswer::StoppedAfter(preemptions - 1),
+    match why {
+        NoAnswer::Stopped if preemptions > 0 => NoAnswer::StoppedAfter(preemptions - 1),
+        _ => why,
     }
 }
 
@@ -142,16 +145,35 @@ fn within<T: Threads + Sync, W: Watch + Send>(
     plan: &Plan,
     bounds: Bounds,
     watch: &mut W,
-) -> Result<Searched, Halt>
+) -> Result<Searched, NoAnswer>
     requires { 0 < plan.now.shard.of }
     ensures is { IfOk result
-        (λ found.
-        AnswersInShard plan.now.wanted plan.now.shard plan.now.among (start board.now bounds)
-        (option_map (λ events. events.items) found.schedule)) }
+        (λ found. AnswersWithin plan.now board.now bounds (option_map (λ events. events.items) found.schedule)) }
     ensures bounds { IfOk result (λ found. found.bounds ≡ bounds) }
-    ensures halts { IfErr result (HaltsSo W.may_stop) }
+    ensures stops { IfErr result (StopsSo plan.now board.now W.may_stop) }
 {
-    let Found { schedule, counts } = find_by_threads(
+    if plan.lazy > 0 {
+        return within_lazily(alloc, board, plan, bounds, watch);
+    }
+    within_all(rt, alloc, board, plan, bounds, watch)
+}
+
+/// Searches them one by one.
+fn within_all<T: Threads + Sync, W: Watch + Send>(
+    rt: &T,
+    alloc: Global,
+    board: &Board,
+    plan: &Plan,
+    bounds: Bounds,
+    watch: &mut W,
+) -> Result<Searched, NoAnswer>
+    requires { 0 < plan.now.shard.of }
+    ensures is { IfOk result
+        (λ found. AnswersWithin plan.now board.now bounds (option_map (λ events. events.items) found.schedule)) }
+    ensures bounds { IfOk result (λ found. found.bounds ≡ bounds) }
+    ensures stops { IfErr result (StopsSo plan.now board.now W.may_stop) }
+{
+    match find_by_threads(
         rt,
         alloc,
         plan.threads,
@@ -162,12 +184,81 @@ fn within<T: Threads + Sync, W: Watch + Send>(
         &plan.wanted,
         places(board, plan.remember),
         watch,
-    )?;
-    Ok(Searched {
-        schedule,
+    ) {
+        Ok(Found { schedule, counts }) => Ok(Searched {
+            schedule,
+            bounds,
+            counts,
+        }),
+        Err(halt) => Err(stopped(halt)),
+    }
+}
+
+/// Searches the lazy ones alone.
+fn within_lazily<W: Watch>(
+    alloc: Global,
+    board: &Board,
+    plan: &Plan,
+    bounds: Bounds,
+    watch: &mut W,
+) -> Result<Searched, NoAnswer>
+    requires { 0 < plan.now.lazy }
+    ensures is { IfOk result
+        (λ found. AnswersWithin plan.now board.now bounds (option_map (λ events. events.items) found.schedule)) }
+    ensures bounds { IfOk result (λ found. found.bounds ≡ bounds) }
+    ensures stops { IfErr result (StopsSo plan.now board.now W.may_stop) }
+{
+    let most = plan.lazy as usize;
+    match find_lazily(
+        alloc,
+        board,
         bounds,
-        counts,
-    })
+        plan.among.as_slice(),
+        &plan.wanted,
+        most,
+        watch,
+    ) {
+        Ok(Lazily::Found(events)) => Ok(Searched {
+            schedule: Some(events),
+            bounds,
+            counts: counts_of(NOWHERE),
+        }),
+        Ok(Lazily::NoneFails(gone)) => Ok(Searched {
+            schedule: None,
+            bounds,
+            counts: counts_of(gone),
+        }),
+        Ok(Lazily::Unknown(why)) => Err(NoAnswer::Unknown(why)),
+        Err(halt) => Err(stopped(halt)),
+    }
+}
+
+/// What stands for the places where one fails: they aren't told.
+const NOWHERE: Gone = Gone {
+    places: 0,
+    ends: 0,
+    spare: 0,
+};
+
+/// Places that were gone through, as schedules are counted.
+fn counts_of(gone: Gone) -> Counts {
+    Counts {
+        tried: gone.places as u64,
+        ended: gone.ends as u64,
+        out_of_events: 0,
+        out_of_ticks: 0,
+        spare: gone.spare,
+    }
+}
+
+/// Why there is no answer where a search was halted.
+fn stopped(halt: Halt) -> NoAnswer
+    ensures { (plan : PlanOf) (b : BoardOf) (may : Bool) → HaltsSo may halt → StopsSo plan b may result }
+{
+    match halt {
+        Halt::NoMemory => NoAnswer::NoMemory,
+        Halt::Stopped => NoAnswer::Stopped,
+    }
 }
 
 /// How many bytes a place takes beside its RAM, about (own choice).
@@ -222,7 +313,7 @@ fn shortest<T: Threads + Sync, W: Watch + Send>(
     while let Some(bounds) = fewer(plan, &best) {
         let searched = match within(rt, alloc, board, plan, bounds, watch) {
             Ok(searched) => searched,
-            Err(halt) => return Err(no_answer(halt, 0)),
+            Err(why) => return Err(no_answer(why, 0)),
         };
         if searched.schedule.is_none() {
             return Ok(best);

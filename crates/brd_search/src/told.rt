@@ -66,6 +66,9 @@ pub fn put_none(
     counts: Counts,
     out: &mut Vec<u8>,
 ) -> Result<(), NoMemory> {
+    if plan.lazy > 0 {
+        return put_none_lazily(alloc, symbols, plan, counts, out);
+    }
     put_count(alloc, out, counts.tried, "schedule")?;
     put(out, " fails: at most ")?;
     put_bounds(alloc, out, plan.bounds)?;
@@ -79,6 +82,46 @@ pub fn put_none(
     put_looked_for(alloc, symbols, plan, out)?;
     put_ends(alloc, plan, counts, out)
 }
+
+/// Puts at the end that of the schedules within bounds none fails, where the lazy ones alone were searched, through
+/// places that are counted so.
+fn put_none_lazily(
+    alloc: Global,
+    symbols: &[Symbol],
+    plan: &Plan,
+    counts: Counts,
+    out: &mut Vec<u8>,
+) -> Result<(), NoMemory> {
+    put(out, "the schedules fails: at most ")?;
+    put_bounds(alloc, out, plan.bounds)?;
+    put(out, "\n")?;
+    put_looked_for(alloc, symbols, plan, out)?;
+    put_gone(alloc, counts.tried, counts.ended, out)?;
+    if counts.ended == 0 {
+        return put(out, NO_LAZY_END);
+    }
+    Ok(())
+}
+
+/// Puts a line at the end of through how many places a search went, and how many of them are ends.
+fn put_gone(alloc: Global, places: u64, ends: u64, out: &mut Vec<u8>) -> Result<(), NoMemory> {
+    put_count(alloc, out, places, "place")?;
+    put(out, if places == 1 { " was" } else { " were" })?;
+    put(out, " gone through, ")?;
+    put_number(alloc, out, ends)?;
+    put(
+        out,
+        if ends == 1 {
+            " is an end\n"
+        } else {
+            " are ends\n"
+        },
+    )
+}
+
+/// What is said where no place within bounds is an end.
+const NO_LAZY_END: &str =
+    "warning: none is an end, so nothing that should be so at the end was looked at; more --events or --ticks may help\n";
 
 /// Through how many places a search went for which events and preemptions have no bound; how many of them are ends; and
 /// from how many of them no schedule comes to an end.
@@ -108,18 +151,7 @@ pub fn put_all_hold(
     put_extras(alloc, out, plan.bounds)?;
     put(out, "\n")?;
     put_looked_for(alloc, symbols, plan, out)?;
-    put_count(alloc, out, extent.places, "place")?;
-    put(out, if extent.places == 1 { " was" } else { " were" })?;
-    put(out, " gone through, ")?;
-    put_number(alloc, out, extent.ends)?;
-    put(
-        out,
-        if extent.ends == 1 {
-            " is an end\n"
-        } else {
-            " are ends\n"
-        },
-    )?;
+    put_gone(alloc, extent.places, extent.ends, out)?;
     put_hopeless(alloc, plan, extent, out)
 }
 

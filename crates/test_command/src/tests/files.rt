@@ -172,6 +172,7 @@ const SEARCH: SearchOptions<'static> = SearchOptions {
     places: 0,
     livelock: false,
     finals: false,
+    lazy: 0,
 };
 
 /// The options of a journal that is made shorter.

@@ -3,14 +3,15 @@
 ghost use Rattle.std.specs.Prelude.{◌<◌};
 
 use super::sources::{
-    APART, DEADLOCK, LOOP, LOST_UPDATE, PETERSON, PETERSON_SWAPPED, REPAIRED, SAMPLED, STARTED,
-    STOPPED, TWO,
+    APART, DEADLOCK, LONG, LOOP, LOST_UPDATE, PETERSON, PETERSON_SWAPPED, REPAIRED, SAMPLED,
+    STARTED, STOPPED, TWO,
 };
 use brd_base::List;
 use brd_board::{Board, Event};
 use brd_crew::find_by_threads;
 use brd_explore::{Bounds, Failure, Nobody, Shard, Wanted, find, find_in_shard};
 use brd_image::build;
+use brd_lazy::{Lazily, find_lazily};
 use std::alloc::Global;
 use std::test::Fail;
 use std::thread::Threads;
@@ -379,6 +380,87 @@ fn first_wrong(alloc: Global) -> Option<usize> {
         }
     }
     None
+}
+
+/// What is told of the lazy search of a case at a board.
+fn lazy_search_of(alloc: Global, board: &Board, case: &Case) -> Told {
+    let Some(wanted) = wanted_of(alloc, case) else {
+        return Told::Nothing;
+    };
+    match find_lazily(
+        alloc,
+        board,
+        bounds_of(case),
+        case.among,
+        &wanted,
+        100_000,
+        &mut Nobody,
+    ) {
+        Ok(Lazily::Found(_)) => Told::Fails,
+        Ok(Lazily::NoneFails(_)) => Told::NoneFails,
+        Ok(Lazily::Unknown(_)) | Err(_) => Told::Nothing,
+    }
+}
+
+/// Whether the lazy search of a case comes to what the other one does.
+fn goes_well_lazily(alloc: Global, case: &Case) -> bool {
+    match build(alloc, case.source.as_bytes(), case.config.as_bytes()) {
+        Ok(board) => agree_lazily(lazy_search_of(alloc, &board, case), case.answer),
+        Err(_) => false,
+    }
+}
+
+/// Whether what is told of a lazy search is what is wanted.
+fn agree_lazily(told: Told, wanted: Told) -> bool {
+    match told {
+        Told::NoneFails => wanted != Told::Fails,
+        _ => told == wanted,
+    }
+}
+
+/// The first case that comes to something else by a lazy search, of those without a fair end.
+fn first_wrong_lazily(alloc: Global) -> Option<usize> {
+    for (row, case) in CASES.iter().enumerate() {
+        if case.rounds == 0 && !goes_well_lazily(alloc, case) {
+            return Some(row);
+        }
+    }
+    None
+}
+
+/// Lazy searches come to the same answers.
+#[test]
+fn lazy_searches_agree(rt: HostRuntime) -> Result<(), Fail> {
+    none_wrong(first_wrong_lazily(rt.alloc()))
+}
+
+/// Schedules of some 1,100 events a task with two preemptions, of which there are more than 600,000.
+const LONG_ONE: &Case = &Case {
+    source: LONG,
+    config: TWO,
+    bounds: (2_500, 2, 0),
+    among: BOTH,
+    wrong: Wrong::Count(20),
+    rounds: 0,
+    answer: Told::NoneFails,
+};
+
+/// Both go on for ever by instructions that nobody else can see.
+const ENDLESS: &Case = &Case {
+    source: LOOP,
+    config: TWO,
+    bounds: (1_000_000, 2, 0),
+    among: BOTH,
+    wrong: Wrong::Deadlock,
+    rounds: 0,
+    answer: Told::NoneFails,
+};
+
+/// Lazy searches come to an answer where others would take minutes, or days.
+#[test]
+fn long_programs_are_searched_lazily(rt: HostRuntime) {
+    assert!(rt; goes_well_lazily(rt.alloc(), LONG_ONE));
+    assert!(rt; goes_well_lazily(rt.alloc(), ENDLESS));
 }
 
 /// The stack doesn't grow with the events of a schedule.

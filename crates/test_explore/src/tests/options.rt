@@ -41,6 +41,7 @@ const OPTIONS: SearchOptions = SearchOptions {
     places: 0,
     livelock: false,
     finals: false,
+    lazy: 0,
 };
 
 /// Options, and what is wrong with them.
@@ -110,6 +111,22 @@ const FAULTS: &[(SearchOptions<'static>, SearchFault)] = &[
             ..OPTIONS
         },
         SearchFault::Time,
+    ),
+    (
+        SearchOptions {
+            lazy: 1,
+            threads: 2,
+            ..OPTIONS
+        },
+        SearchFault::Lazy,
+    ),
+    (
+        SearchOptions {
+            lazy: 1,
+            places: 1,
+            ..OPTIONS
+        },
+        SearchFault::Lazy,
     ),
     (
         SearchOptions {

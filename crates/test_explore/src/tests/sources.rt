@@ -75,6 +75,41 @@ again:  ll    $t0, %lo(count)($s0)
         syscall
 ";
 
+/// Ten times each adds numbers to sixteen words of its own, and then takes a lock and adds 1 to the word at 0x80000000:
+/// some 1,100 instructions in all.
+pub const LONG: &str = "count: .word 0, 0, 0, 0
+lock:   .word 0, 0, 0, 0
+words:  .space 512
+main:   lui   $s0, %hi(count)
+        sll   $s1, $a0, 8
+        addu  $s1, $s1, $s0
+        addiu $s1, $s1, %lo(words)
+        addiu $s3, $0, 10
+round:  addiu $t3, $0, 16
+        move  $t4, $s1
+fill:   lw    $t5, 0($t4)
+        addu  $t5, $t5, $t3
+        sw    $t5, 0($t4)
+        addiu $t3, $t3, -1
+        bnez  $t3, fill
+        addiu $t4, $t4, 4
+take:   ll    $t1, %lo(lock)($s0)
+        bnez  $t1, take
+        addiu $t0, $0, 1
+        sc    $t0, %lo(lock)($s0)
+        beqz  $t0, take
+        nop
+        lw    $t0, %lo(count)($s0)
+        addiu $t0, $t0, 1
+        sw    $t0, %lo(count)($s0)
+        sw    $0, %lo(lock)($s0)
+        addiu $s3, $s3, -1
+        bnez  $s3, round
+        nop
+        addiu $v0, $0, 3
+        syscall
+";
+
 /// They take two semaphores in two orders.
 pub const DEADLOCK: &str = "main: addiu $a0, $0, 1
         addiu $v0, $0, 25

@@ -157,6 +157,7 @@ fn options_of(case: &Case) -> SearchOptions<'static> {
         places: 0,
         livelock: false,
         finals: false,
+        lazy: 0,
     }
 }
 
