@@ -12,7 +12,7 @@ returns c =
     let name = codes "), spins for lock" in
     let asks : c.put.new.out.items ≡ old ++ call = c.in_ok-put.ensures.is ∙ ap (λ (it : List ℕ). old ++ it) c.asking.ensures in
     let signs : c.put_signed.new.out.items ≡ old ++ (call ++ lock) =
-        c.in_ok-put_signed.ensures ∙ (ap (λ (it : List ℕ). it ++ lock) asks ∙ append_assoc old call lock) in
+    c.in_ok-put_signed.ensures ∙ (ap (λ (it : List ℕ). it ++ lock) asks ∙ append_assoc old call lock) in
     on_ok_weaker c.put_named.result
     (λ e. e ∙ (ap (λ (it : List ℕ). it ++ named_text name c.from.result) signs
     ∙ (append_assoc old (call ++ lock) (named_text name c.from.result)
