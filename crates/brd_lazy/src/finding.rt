@@ -138,6 +138,9 @@ fn visit_all<W: Watch>(
             Tried::Unknown(why) => return Ok(Round::Unknown(why)),
         }
     }
+    if spots.len() <= most {
+        return Ok(Round::Holds);
+    }
     Ok(Round::Unknown(Unknown::Places))
 }
 
