@@ -119,7 +119,7 @@ KERNEL_CALL ER trcv_dtq(ID dtqid, VP_INT *p_data, TMO tmout)
 { return kernel_second(kernel_2(39, dtqid, tmout), (UINT *)p_data); }
 
 /* Spin locks between processors: the calls are those of TOPPERS/FMP, how they behave is the board's own. Who holds one
-   is CPU-locked until unl_spn. */
+   is CPU-locked until unl_spn. (Those of handlers stand with the other calls of handlers.) */
 KERNEL_CALL ER loc_spn(ID spnid) { return kernel_1(60, spnid).first; }
 KERNEL_CALL ER try_spn(ID spnid) { return kernel_1(61, spnid).first; }
 KERNEL_CALL ER unl_spn(ID spnid) { return kernel_1(62, spnid).first; }
@@ -206,6 +206,11 @@ KERNEL_CALL ER isnd_mbx(ID mbxid, T_MSG *pk_msg)
 { return kernel_3(87, mbxid, (UINT)pk_msg, kernel_priority(pk_msg)).first; }
 KERNEL_CALL ER ista_alm(ID almid, RELTIM almtim) { return kernel_2(96, almid, almtim).first; }
 KERNEL_CALL ER istp_alm(ID almid) { return kernel_1(98, almid).first; }
+KERNEL_CALL ER iloc_cpu(void) { return kernel_0(101).first; }
+KERNEL_CALL ER iunl_cpu(void) { return kernel_0(102).first; }
+KERNEL_CALL ER iloc_spn(ID spnid) { return kernel_1(103, spnid).first; }
+KERNEL_CALL ER itry_spn(ID spnid) { return kernel_1(104, spnid).first; }
+KERNEL_CALL ER iunl_spn(ID spnid) { return kernel_1(105, spnid).first; }
 KERNEL_CALL ER iget_pid(ID *p_prcid) { return kernel_second(kernel_0(112), (UINT *)p_prcid); }
 KERNEL_CALL ER ret_int(void) { return kernel_0(58).first; }
 

@@ -55,6 +55,8 @@ USES = {
     "sta_cyc": (2, 3, .1, "cyclic"), "stp_cyc": (.3, .8, .1, "cyclic"), "ref_cyc": (.3, .5, .1, "cyclic word"),
     "sta_alm": (3, 5, .1, "alarm delay"), "ista_alm": (.1, .1, 2, "alarm delay"), "stp_alm": (.3, .5, .1, "alarm"),
     "istp_alm": (.1, .1, .5, "alarm"), "ref_alm": (.3, .5, .1, "alarm word"),
+    "iloc_cpu": (.1, .1, 1, ""), "iunl_cpu": (.1, .1, .5, ""), "iloc_spn": (.1, .1, 2, "lock"),
+    "itry_spn": (.1, .1, 1, "lock"), "iunl_spn": (.1, .1, .3, "lock"),
 }
 THEMES = {
     "everything": "", "links": "", "sleep": "slp_tsk tslp_tsk wup_tsk can_wup rel_wai sus_tsk rsm_tsk iwup_tsk",
@@ -65,6 +67,7 @@ THEMES = {
     "tasks": "act_tsk can_act ter_tsk chg_pri get_pri mact_tsk mig_tsk rot_rdq irot_rdq imact_tsk iact_tsk",
     "held": "dis_dsp loc_cpu ter_tsk mig_tsk sus_tsk rsm_tsk act_tsk",
     "lock": "loc_spn try_spn unl_spn dis_dsp loc_cpu ter_tsk",
+    "locked handlers": "loc_spn try_spn unl_spn loc_cpu iloc_cpu iunl_cpu iloc_spn itry_spn sns_loc sns_dpn",
     "mutex": "loc_mtx tloc_mtx ploc_mtx unl_mtx ref_mtx chg_pri get_pri rel_wai ter_tsk sus_tsk rsm_tsk",
     "pool": "get_mpf tget_mpf pget_mpf rel_mpf ref_mpf chg_pri rel_wai ter_tsk sus_tsk rsm_tsk",
     "mailbox": "snd_mbx isnd_mbx prcv_mbx ref_mbx chg_pri rel_wai sus_tsk rsm_tsk",
@@ -133,8 +136,8 @@ class Maker:
 
     def shape(self):
         """Which processors, tasks, objects and lines there are."""
-        alone = self.often(.25) and self.theme not in ("links", "held", "lock")
-        of_the_profile = "profile", "mutex", "pool", "mailbox", "messages", "times"
+        alone = self.often(.25) and self.theme not in ("links", "held", "lock", "locked handlers")
+        of_the_profile = "profile", "mutex", "pool", "mailbox", "messages", "times", "locked handlers"
         self.standard = self.theme in of_the_profile or self.often(.5)
         self.processors = 1 if alone else self.chance(2, 2, 2, 2, 3, 3, 4, 8)
         self.tasks = self.ids(self.random.randrange(4, 11))
@@ -148,7 +151,7 @@ class Maker:
             self.priority[self.manager], self.place[self.manager] = self.chance(16, max(priorities)), self.processors
         self.others = [task for task in self.tasks if task != self.manager]
         of_themes = {"mutex": self.chance(1, 2, 2, 3)} | dict.fromkeys(
-            "semaphore flag queue receivers lock pool mailbox messages".split(), 1)
+            ["semaphore", "flag", "queue", "receivers", "lock", "locked handlers", "pool", "mailbox", "messages"], 1)
         count = of_themes.get(self.theme) or self.chance(0, 1, 1, 2)
         self.semaphores = {key: self.new_semaphore() for key in self.ids(count)}
         self.flags = {key: self.new_flag() for key in self.ids(count)}
@@ -157,7 +160,7 @@ class Maker:
         self.mutexes = {key: self.new_mutex() for key in self.ids(count)} if self.standard else {}
         self.pools = {key: self.new_pool() for key in self.ids(count)} if self.standard else {}
         self.mailboxes = {key: self.new_mailbox() for key in self.ids(count)} if self.standard else {}
-        lines = self.random.sample(range(32), self.random.randrange(5))
+        lines = self.random.sample(range(32), self.random.randrange(2 if self.theme == "locked handlers" else 0, 5))
         self.lines = {line: self.random.randrange(1, self.processors + 1) for line in lines}
         kinds = 1 if self.theme == "times" else 0
         counts = (self.chance(kinds, kinds, 1, 2, 3) if self.standard else 0 for _ in range(2))
@@ -229,7 +232,7 @@ class Maker:
                 code.add("ADDU", rs=3, rd=register)
             else:
                 code.set(register, value)
-        code.set(2, NUMBERS.get(name) or self.chance(0, 42, 47, 59, 63, 101, 111, 0x101))
+        code.set(2, NUMBERS.get(name) or self.chance(0, 42, 47, 59, 63, 106, 111, 0x101))
         if self.often(.08):
             branch = self.chance("BEQ", "BEQ", "BGEZAL", "BNE", "BEQL")
             code.add(branch, immediate=self.random.randrange(1, 4))
@@ -250,6 +253,13 @@ class Maker:
         end = {"dis_dsp": "ena_dsp", "loc_cpu": "unl_cpu", "loc_spn": "unl_spn", "try_spn": "unl_spn",
                "loc_mtx": "unl_mtx", "ploc_mtx": "unl_mtx", "tloc_mtx": "unl_mtx",
                "get_mpf": "rel_mpf", "pget_mpf": "rel_mpf", "tget_mpf": "rel_mpf"}.get(name)
+        of_handlers = {"iloc_cpu": "iunl_cpu", "iloc_spn": "iunl_spn", "itry_spn": "iunl_spn"}.get(name)
+        if who == 2 and of_handlers and self.often(.5):
+            for _ in range(self.random.randrange(3)):
+                self.chance(self.compute, self.calls)(code, who, caller)
+            if self.often(.05):
+                self.fail(code)
+            self.call(code, of_handlers, caller, arguments)
         if end and who < 2 and self.often({"rel_mpf": .5, "unl_mtx": .8}.get(end, .9)):
             for _ in range(self.random.randrange(4)):
                 self.chance(self.compute, self.calls)(code, who, caller)

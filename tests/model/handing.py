@@ -28,10 +28,11 @@ WAYS = [
     ("get_mpf get_mpf tget_mpf pget_mpf rel_mpf", "iget_tid"),
     ("snd_mbx snd_mbx rcv_mbx trcv_mbx prcv_mbx", "isnd_mbx"),
     ("sta_alm sta_alm sta_cyc stp_alm stp_cyc loc_cpu", "ista_alm"),
+    ("loc_cpu loc_spn loc_spn try_spn", "iloc_cpu iloc_spn iloc_spn itry_spn"),
 ]
 ENDS = {"loc_cpu": "unl_cpu", "dis_dsp": "ena_dsp", "loc_spn": "unl_spn", "try_spn": "unl_spn", "loc_mtx": "unl_mtx",
         "tloc_mtx": "unl_mtx", "ploc_mtx": "unl_mtx", "get_mpf": "rel_mpf", "tget_mpf": "rel_mpf", "pget_mpf":
-        "rel_mpf"}
+        "rel_mpf", "iloc_cpu": "iunl_cpu", "iloc_spn": "iunl_spn", "itry_spn": "iunl_spn"}
 
 
 class Handing(Maker):
@@ -66,6 +67,8 @@ class Handing(Maker):
             self.standard, self.mailboxes = True, self.mailboxes or {7: self.new_mailbox()}
         if number == 13:
             self.standard, self.cyclics, self.alarms = True, self.cyclics or {8: 1}, self.alarms or {9: self.processors}
+        if number == 14:
+            self.standard, self.lines = True, self.lines or {3: self.processors, 5: 1}
         self.words, self.step = self.chance(4, 12, 40, 100), self.chance(0, 16, 64, 64, 64)
         self.flag_words, self.sound = self.chance(1, 2, 4), self.chance(.3, .6, .9)
         self.base = self.chance(BASE, MOVING)

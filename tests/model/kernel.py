@@ -1,7 +1,7 @@
 """The kernel and the board of the model: tasks, objects, time, the table of service calls, events, the report.
 
 The uITRON 4.0 specification says what the calls do; TOPPERS/FMP what mact_tsk, imact_tsk, mig_tsk, get_pid, mget_tid,
-mrot_rdq, ista_alm, istp_alm and those of spin locks do. From where a call may come, the order of its refusals, that a
+mrot_rdq, ista_alm, istp_alm and those of spin locks do, in handlers too. From where a call may come, the order of its refusals, that a
 call spins by coming again, that calls above 63 are there in the profile alone, that the ref_ calls tell a word each,
 which block of a memory pool is handed out, where pools lie, that snd_mbx has the priority as an argument and refuses a
 257th message, that time handlers are handlers of interrupt lines above 31, put_chr, ext_ker, ret_int and the events are
@@ -372,20 +372,21 @@ class Board:
         answer = Request(self, processor, context).serve()
         if answer is AGAIN:
             context.pc, context.npc, context.slot = before
-            self.counts["spin: " + ("in a slot" if context.slot else "again")] += 1
+            who = "a handler, " if processor.line is not None else ""
+            self.counts[f"spin: {who}{'in a slot' if context.slot else 'again'}"] += 1
         else:
             write(context, answer)
         self.dispatch()
 
     def fault(self, processor, code):
         """An exception stops a handler's processor for good, and ends a task without its queued requests."""
-        place = "handler" if processor.line is not None else "task" if processor.lock is None else "task with a lock"
-        self.counts[f"exception: {code} in a {place}"] += 1
+        who = "task" if processor.line is None else "handler"
+        self.counts[f"exception: {code} in a {who}{' with a lock' if processor.lock else ''}"] += 1
+        processor.unlock()
         if processor.line is not None:
             processor.stopped = True
             return
         processor.running.request = None
-        processor.unlock()
         processor.disabled = False
         self.end(processor.running)
         self.dispatch()
@@ -503,8 +504,10 @@ class Request:
         """Whether a call may come from here."""
         if place == ANYWHERE:
             return True
-        if self.caller is None or place == HANDLER:
-            return self.caller is None and place == HANDLER
+        if self.caller is None:
+            return place == LOCKED_HANDLER or place == HANDLER and not self.processor.locked
+        if place in (HANDLER, LOCKED_HANDLER):
+            return False
         if self.processor.locked:
             return place == LOCKED_TASK
         names_caller = self.arguments[0] in (0, self.caller.id)
@@ -780,6 +783,10 @@ class Request:
         return E_OK, ([0, 0] if due is None else [1, due - self.board.now - 1])[self.arguments[1]]
 
     def ret_int(self):
+        """The processor is neither CPU-locked after it nor holds a spin lock."""
+        self.board.counts["ret_int: " + ("with a lock" if self.processor.lock else
+                                         "CPU-locked" if self.processor.locked else "unlocked")] += 1
+        self.processor.unlock()
         self.processor.line = self.processor.handler = None
         return SILENT
 
@@ -795,9 +802,10 @@ def satisfied(pattern, bits, mode):
 
 
 # From where a call may come: a task that isn't CPU-locked, any task, as the first but not while dispatching is
-# disabled, as the first but then not for itself, a handler, any task or handler. Which are which is an own choice.
-TASK, LOCKED_TASK, WAITING, ON_TASK, HANDLER = "task", "locked task", "waiting", "on task", "handler"
-ANYWHERE = "anywhere"
+# disabled, as the first but then not for itself, a handler that isn't CPU-locked, any handler, any task or handler.
+# Which are which is an own choice.
+TASK, LOCKED_TASK, WAITING, ON_TASK = "task", "locked task", "waiting", "on task"
+HANDLER, LOCKED_HANDLER, ANYWHERE = "handler", "locked handler", "anywhere"
 # The first number of the calls that are there in the profile alone.
 PROFILE = 64
 FOREVER, POLL = -1, 0
@@ -892,7 +900,7 @@ CALLS = {
     55: Call("irot_rdq", HANDLER, "", None, [BAD_ROTATION], [], Request.rot_rdq),
     56: Call("iget_tid", HANDLER, "", None, [], [], Request.iget_tid),
     57: Call("imact_tsk", HANDLER, "T", None, [BAD_PROCESSOR], [REQUESTED], Request.activate_there),
-    58: Call("ret_int", HANDLER, "", None, [], [], Request.ret_int),
+    58: Call("ret_int", LOCKED_HANDLER, "", None, [], [], Request.ret_int),
     60: Call("loc_spn", TASK, "L", None, [], [], Request.loc_spn),
     61: Call("try_spn", TASK, "L", None, [], [HELD_BY_ANY], Request.loc_spn),
     62: Call("unl_spn", LOCKED_TASK, "L", None, [], [NOT_HELD_HERE], lambda it: it.processor.unlock()),
@@ -933,5 +941,10 @@ CALLS = {
     98: Call("istp_alm", HANDLER, "A", None, [], [], Request.stop),
     99: Call("ref_cyc", TASK, "C", None, [OF_TWO], [], Request.ref_timer),
     100: Call("ref_alm", TASK, "A", None, [OF_TWO], [], Request.ref_timer),
+    101: Call("iloc_cpu", LOCKED_HANDLER, "", None, [], [], lambda it: it.mark("locked", True)),
+    102: Call("iunl_cpu", LOCKED_HANDLER, "", None, [], [HOLDS_A_LOCK], lambda it: it.mark("locked", False)),
+    103: Call("iloc_spn", HANDLER, "L", None, [], [], Request.loc_spn),
+    104: Call("itry_spn", HANDLER, "L", None, [], [HELD_BY_ANY], Request.loc_spn),
+    105: Call("iunl_spn", LOCKED_HANDLER, "L", None, [], [NOT_HELD_HERE], lambda it: it.processor.unlock()),
     112: Call("iget_pid", HANDLER, "", None, [], [], lambda it: (E_OK, it.processor.number)),
 }

@@ -48,6 +48,8 @@ class Looping(Maker):
             self.call(code, "ext_ker", task)
 
     def handler_code(self, code, _):
+        if self.standard and self.often(self.locks / 2):
+            self.call(code, "iloc_spn", None)
         if self.often(.3):
             self.loop(code, None)
         super().handler_code(code, None)
@@ -137,7 +139,7 @@ class Looping(Maker):
             lambda: code.add("ADDIU", rs=register, rt=register, immediate=self.chance(1, -1, 4)),
             lambda: self.instruction(code, STORES),
             lambda: code.add("SC", rs=BASE, rt=register, immediate=self.random.choice(SHARED)),
-            lambda: self.call(code, self.chance("get_pid", "rot_rdq", "iget_tid", "loc_spn"), caller),
+            lambda: self.call(code, self.chance("get_pid", "rot_rdq", "iget_tid", "loc_spn", "iloc_spn"), caller),
             lambda: code.add(self.chance("MADD", "MADDU", "MSUB"), rs=self.chance(*READ), rt=self.chance(*READ)))()
         self.back(code, top)
 

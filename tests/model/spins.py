@@ -62,7 +62,7 @@ def asked_lock(board, processor):
     if not it or it.mnemonic != "SYSCALL":
         return None
     request = Request(board, processor, context)
-    if not request.call or request.call.name != "loc_spn" or request.refusal() is not None:
+    if not request.call or request.call.name not in ("loc_spn", "iloc_spn") or request.refusal() is not None:
         return None
     return request.arguments[0] if request.object.holder else None
 

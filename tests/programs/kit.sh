@@ -47,7 +47,7 @@ READ = ("addu $a0, $v0, $zero; $a0 = 00000001", "beq $v0, $zero, 0x80000014", "b
         "movz $v0, $t0, $t1", "mult $t0, $v0", "mthi $v0", "jr $v0", "slti $v0, $v0, 0", "sc $v0, 0($t0)",
         "div $v0, $t0", "jalr $ra, $v0", "lwl $v0, 0($t0)")
 WRITTEN = ("addiu $v0, $zero, 3; $v0 = 00000003", "lui $v0, 0x8000", "lw $v0, 0($t0)", "mflo $v0", "sig_sem(1) = E_OK",
-           "ext_tsk(), task 1 dormant", "ret_int()", "clz $v0, $t0", "service 101 = E_RSFN", "ll $v0, 0($t0)")
+           "ext_tsk(), task 1 dormant", "ret_int()", "clz $v0, $t0", "service 106 = E_RSFN", "ll $v0, 0($t0)")
 NEITHER = ("nop", "addiu $v1, $zero, 3", "jr $ra", "beq $t0, $t1, 0x80000014", "sw $v1, 0($a0)", "j 0x80000000", "mfhi $t0",
            "jal 0x80000000; $ra = 80000008", "sync")
 for texts, wanted in ((READ, True), (WRITTEN, False), (NEITHER, None)):

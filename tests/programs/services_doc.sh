@@ -21,6 +21,8 @@ of_doc() {
                 waiting) place=Waiting ;;
                 "on task") place=OnTask ;;
                 handler) place=Handler ;;
+                "locked handler") place=LockedHandler ;;
+                "handler not holding") place=NotHoldingHandler ;;
                 anywhere) place=Anywhere ;;
             esac
             words=$(tr -d ' ' <<< "$arguments")

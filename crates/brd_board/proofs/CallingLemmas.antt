@@ -45,7 +45,7 @@ pub record Calls (P Q : KernelState → Type 0) (k : KernelState) (cpu : ℕ) : 
   pub replies : (now : KernelState) (who : Executor) (s : State) → Q now → Q (with_context_of now cpu who s)
   -- a call that the gate lets through is served in the kernel in which the context has gone on
   pub serves : (now : KernelState) (p : Processor) (c : Call) → Same now k → processor_at now cpu ≡ Some p →
-      MayServe p (caller_on now cpu) c → P now →
+      MayServe now.standard p (caller_on now cpu) c → P now →
       Q (serve_of now cpu c).kernel
 
 changed-leaves : (P : KernelState → Type 0) (change : State → State) (k : KernelState) (cpu : ℕ)
@@ -61,7 +61,7 @@ changed-same change k cpu (Some who) = same-context k cpu who (change (context_o
 
 served-leaves : {P Q : KernelState → Type 0} (k now : KernelState) (cpu : ℕ) (p : Processor)
     (asked : Result Call Ercd) → Calls P Q k cpu → Same now k →
-    processor_at now cpu ≡ Some p → MayBe p (caller_on now cpu) asked → P now → Q (served_call now cpu asked).kernel
+    processor_at now cpu ≡ Some p → MayBe now.standard p (caller_on now cpu) asked → P now → Q (served_call now cpu asked).kernel
 served-leaves k now cpu p (Ok c) law same there may was = law.serves now p c same there may was
 served-leaves k now cpu p (Err code) law same there may was = law.quiet now was
 
@@ -78,11 +78,13 @@ read-leaves {P = P} {Q = Q} k cpu s p law is was =
     let same : Same on k = changed-same advanced k cpu (executor_on k cpu) in
     let there : processor_at on cpu ≡ Some p = ap (λ ps. slice_index_or ps cpu None) same.processors ∙ is.there in
     let asked : Result Call Ercd = read_of s (caller_of k cpu) in
-    let may : MayBe p (caller_on on cpu) asked =
-    subst (λ found. MayBe p (unwrap_or (running_in found) 0) asked) (sym there)
-    (subst (λ found. MayBe p (unwrap_or p.running 0) (read_of s (record { agent = agent_in (unwrap_or (running_in found) 0) found; standard = k.standard })))
+    let may : MayBe on.standard p (caller_on on cpu) asked =
+    subst (λ standard. MayBe standard p (caller_on on cpu) asked) (sym same.standard)
+    (subst (λ found. MayBe k.standard p (unwrap_or (running_in found) 0) asked) (sym there)
+    (subst (λ found. MayBe k.standard p (unwrap_or p.running 0)
+    (read_of s (record { agent = agent_in (unwrap_or (running_in found) 0) found; standard = k.standard })))
     (sym is.there)
-    (read-may k.standard p s is.on is.by)) in
+    (read-may k.standard p s is.on is.by))) in
     let done : Served = served_call on cpu asked in
     let left : Q done.kernel =
     served-leaves k on cpu p asked law same there may

@@ -14,7 +14,7 @@ use Rattle.brd_mem.specs.Memory.{Memory}
 use Rattle.brd_kernel.specs.declared.processor.Processor.{Processor}
 use Rattle.brd_kernel.specs.declared.processor.Executor.{Executor}
 use Rattle.brd_kernel.specs.declared.processor.Executor.TheVariants as executor
-use Rattle.brd_kernel.specs.Kernel.{KernelState, with_tasks, processor_at, running_in, running_on, unmarked, executor_on, with_context_of, handles, accepted_line, deliverable, can_be_raised, with_pending}
+use Rattle.brd_kernel.specs.Kernel.{KernelState, with_tasks, processor_at, running_in, running_on, unmarked, letting_go, executor_on, with_context_of, handles, accepted_line, deliverable, can_be_raised, with_pending}
 use Rattle.brd_board.specs.Executing.{Executed, executed_in, executed}
 use Rattle.brd_kernel.specs.Dispatch.{dispatched, is_same_task, has_changed, changed_processors}
 use Rattle.brd_kernel.proofs.SameLemmas.{Same, same-quits, same-prioritized, same-law}
@@ -65,7 +65,7 @@ runners-law k cpu caller = same-law (λ new. KeepsRunners new k) k cpu caller (r
   same = λ new is. runs new k is;
   exits = λ may. keeps-exit k cpu caller;
   marks = λ p q there same how at. runners-set k.processors cpu at p q there same;
-  returns = λ (p : Processor) there at. runners-set k.processors cpu at p (record p { handling = None }) there refl;
+  returns = λ (p : Processor) there at. runners-set k.processors cpu at p (record (letting_go p) { handling = None }) there refl;
 })
 
 keeps-context : (k : KernelState) (cpu : ℕ) (who : Executor) (s : State) → KeepsRunners (with_context_of k cpu who s) k
@@ -107,7 +107,8 @@ keeps-runners-if false old one other first second = second
 keeps-faulted : (k : KernelState) (cpu : ℕ) (found : Option Processor) → processor_at k cpu ≡ found → KeepsRunners (faulted_in k cpu found) k
 keeps-faulted k cpu None is = λ at. refl
 keeps-faulted k cpu (Some p) is =
-    keeps-runners-if (is_some p.handling) k _ _ (λ at. runners-set k.processors cpu at p (record p { stopped = true }) is refl) (keeps-faulted_task k cpu p p.running is)
+    keeps-runners-if (is_some p.handling) k _ _ (λ at. runners-set k.processors cpu at p (record (letting_go p) { stopped = true }) is refl)
+    (keeps-faulted_task k cpu p p.running is)
 
 keeps-executed : (k : KernelState) (cpu : ℕ) (memory : Memory) (links : LinkSet) (who : Option Executor) (e : Executed) →
     executed_in k cpu memory links who ≡ Some e → KeepsRunners e.kernel k

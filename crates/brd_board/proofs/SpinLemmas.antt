@@ -18,7 +18,7 @@ use Rattle.brd_kernel.specs.declared.processor.LineSetup.{LineSetup}
 use Rattle.brd_kernel.specs.declared.processor.Processor.{Processor}
 use Rattle.brd_kernel.specs.declared.processor.Spin.TheVariants as spin
 use Rattle.brd_kernel.specs.declared.processor.Executor.{Executor}
-use Rattle.brd_kernel.specs.Kernel.{KernelState, with_tasks, processor_at, running_in, running_on, executor_on, with_context_of, holds, spin_of, accepted_line, deliverable, can_be_raised, with_pending}
+use Rattle.brd_kernel.specs.Kernel.{KernelState, with_tasks, processor_at, running_in, running_on, executor_in, executor_on, with_context_of, holds, spin_of, accepted_line, deliverable, can_be_raised, with_pending}
 use Rattle.brd_board.specs.Executing.{Executed, executed_in, executed}
 use Rattle.brd_kernel.specs.Dispatch.{dispatched}
 use Rattle.brd_kernel.specs.Holding.{AreLocks}
@@ -27,7 +27,7 @@ use Rattle.brd_kernel.specs.Waits.{ticked_on, ended_by_fault}
 use Rattle.brd_kernel.specs.Services.{serve_of}
 use Rattle.brd_kernel.proofs.who_waits.ListLemmas.{same-number}
 use Rattle.brd_kernel.proofs.SameLemmas.{Same, same-context}
-use Rattle.brd_kernel.proofs.SpinLemmas.{IsLocking, locks-locking, locking-locks, held-holds, holds-held, free-unheld, Wrote, serve-wrote, fault-wrote, accept-wrote, same-ticked, same-pending, locking-same, wrote-locking, wrote-runs, dispatch-holds, holder-stays, dispatch-locking, made-locking}
+use Rattle.brd_kernel.proofs.SpinLemmas.{IsLocking, locks-locking, locking-locks, held-holds, holds-held, free-unheld, Wrote, serve-wrote, fault-wrote, accept-wrote, same-ticked, same-pending, locking-same, wrote-locking, wrote-runs, wrote-executes, dispatch-holds, holder-stays, dispatch-locking, made-locking}
 use Rattle.brd_sysgate.specs.Gate.{called}
 use Rattle.brd_board.specs.declared.event.Event.{Event}
 use Rattle.brd_board.specs.declared.event.Event.TheVariants.{Step, Tick, Raise}
@@ -45,17 +45,19 @@ mover Tick at = false
 mover (Raise line) at = false
 
 -- What an event, or a part of one, makes of who holds locks: nobody but its mover takes or frees one, and who holds one
--- after it runs what it ran.
+-- after it runs what it ran, and executes what it executed.
 record Passes (moves : ℕ → Bool) (k new : KernelState) : Type 0 where
   locking : IsLocking new
   others : (at id : ℕ) → moves at ≡ false → holds id (processor_at new at) ≡ holds id (processor_at k at)
   runs : (at id : ℕ) → holds id (processor_at new at) ≡ true → running_on new at ≡ running_on k at
+  executes : (at id : ℕ) → holds id (processor_at new at) ≡ true → executor_on new at ≡ executor_on k at
 
 same-passes : (moves : ℕ → Bool) (k new : KernelState) → IsLocking k → Same new k → Passes moves k new
 same-passes moves k new was same = record {
   locking = locking-same k new same was;
   others = λ at id other. ap (λ ps. holds id (slice_index_or ps at None)) same.processors;
   runs = λ at id held. ap (λ ps. running_in (slice_index_or ps at None)) same.processors;
+  executes = λ at id held. ap (λ ps. executor_in (slice_index_or ps at None)) same.processors;
 }
 
 -- then a dispatch
@@ -66,6 +68,9 @@ dispatched-passes moves k mid was = record {
   runs = λ at id held.
       let holding : holds id (processor_at mid at) ≡ true = sym (dispatch-holds mid at id) ∙ held in
       ap running_in (holder-stays mid at id was.locking holding) ∙ was.runs at id holding;
+  executes = λ at id held.
+      let holding : holds id (processor_at mid at) ≡ true = sym (dispatch-holds mid at id) ∙ held in
+      ap executor_in (holder-stays mid at id was.locking holding) ∙ was.executes at id holding;
 }
 
 wrote-passes : (k new : KernelState) (cpu : ℕ) → IsLocking k → Wrote k cpu new → Passes (λ at. cpu == at) k new
@@ -73,6 +78,7 @@ wrote-passes k new cpu was wrote = record {
   locking = wrote-locking k new cpu wrote was;
   others = λ at id other. ap (holds id) (wrote.others at other);
   runs = λ at id held. wrote-runs k new cpu at wrote;
+  executes = λ at id held. wrote-executes k new cpu at id wrote held;
 }
 
 -- Service calls.
@@ -84,6 +90,8 @@ passes-same moves k mid new was same = record {
   others = λ at id other. ap (λ ps. holds id (slice_index_or ps at None)) same.processors ∙ was.others at id other;
   runs = λ at id held. ap (λ ps. running_in (slice_index_or ps at None)) same.processors
       ∙ was.runs at id (sym (ap (λ ps. holds id (slice_index_or ps at None)) same.processors) ∙ held);
+  executes = λ at id held. ap (λ ps. executor_in (slice_index_or ps at None)) same.processors
+      ∙ was.executes at id (sym (ap (λ ps. holds id (slice_index_or ps at None)) same.processors) ∙ held);
 }
 
 passes-from : (moves : ℕ → Bool) (k mid new : KernelState) → Same mid k → Passes moves mid new → Passes moves k new
@@ -91,6 +99,7 @@ passes-from moves k mid new same is = record {
   locking = is.locking;
   others = λ at id other. is.others at id other ∙ ap (λ ps. holds id (slice_index_or ps at None)) same.processors;
   runs = λ at id held. is.runs at id held ∙ ap (λ ps. running_in (slice_index_or ps at None)) same.processors;
+  executes = λ at id held. is.executes at id held ∙ ap (λ ps. executor_in (slice_index_or ps at None)) same.processors;
 }
 
 calls-pass : (k : KernelState) (cpu : ℕ) → IsLocking k →
@@ -277,6 +286,7 @@ goes-on b event was =
       taken = λ id cpu is now. taken-by (mover event cpu) event b new id cpu refl passes is was
           (held-holds new id cpu passes.locking now);
       runs = λ id cpu now. passes.runs cpu id (held-holds new id cpu passes.locking now);
+      executes = λ id cpu now. passes.executes cpu id (held-holds new id cpu passes.locking now);
     }
 
 pub boot-goes-on : (image : Image) (config : Configuration) (b : BoardState) (events : List Event) (event : Event) →

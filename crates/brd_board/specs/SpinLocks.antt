@@ -1,7 +1,7 @@
 -- What an event does to who holds spin locks.
 use Rattle.std.specs.Prelude.{◌≡◌, ℕ, Some}
 use Rattle.brd_kernel.specs.declared.processor.Spin.TheVariants.{Free, Held}
-use Rattle.brd_kernel.specs.Kernel.{running_on}
+use Rattle.brd_kernel.specs.Kernel.{running_on, executor_on}
 use Rattle.brd_board.specs.declared.event.Event.{Event}
 use Rattle.brd_board.specs.declared.event.Event.TheVariants.{Step}
 use Rattle.brd_board.specs.Board.{BoardState, spin_lock_of}
@@ -16,5 +16,8 @@ pub record LocksGoOn (b : BoardState) (event : Event) (new : BoardState) : Type 
       other ≡ cpu
   -- who takes one does so by a step
   pub taken : (id cpu : ℕ) → spin_lock_of b id ≡ Some Free → spin_lock_of new id ≡ Some (Held cpu) → event ≡ Step cpu
-  -- a processor that holds one after the event runs the task that it ran before it: the one that took the lock
+  -- a processor that holds one after the event has the running task that it had before it, and who executes there is
+  -- who executed there before it: the task or the handler that took the lock
   pub runs : (id cpu : ℕ) → spin_lock_of new id ≡ Some (Held cpu) → running_on new.kernel cpu ≡ running_on b.kernel cpu
+  pub executes : (id cpu : ℕ) → spin_lock_of new id ≡ Some (Held cpu) →
+      executor_on new.kernel cpu ≡ executor_on b.kernel cpu

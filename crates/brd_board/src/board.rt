@@ -457,8 +457,8 @@ impl Board {
         self.kernel.is_pending(line)
     }
 
-    /// The tick at which a time handler is due next, so that its line is pending from then on; None where it is stopped,
-    /// or isn't there. The cyclic handler of ID C has place 2C - 2, the alarm handler of ID A place 2A - 1, up to 127.
+    /// The tick at which a time handler is due next, so that its line is pending from then on; None if it is stopped or
+    /// isn't there. The cyclic handler of ID C has place 2C - 2, the alarm handler of ID A place 2A - 1, up to 127.
     pub fn timer_due(&self, place: u8) -> Option<u64>
         ensures { result ≡ timer_due self.now.kernel place }
     {

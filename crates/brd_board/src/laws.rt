@@ -93,11 +93,11 @@ pub fn conditional_stores()
 {}
 
 /// After every list of events from a boot a spin lock is free, and then no processor holds it, or exactly one processor
-/// holds it. A processor that holds one is CPU-locked, handles no interrupt and isn't stopped, and a task runs on it.
-/// No event ends this.
+/// holds it. A processor that holds one is CPU-locked, and its task or its handler executes; without the profile it
+/// handles no interrupt, so that is its task. No event ends this.
 ///
 /// A lock becomes free only by a step of the processor that holds it, and a processor takes one only by a step of its
-/// own. While it holds one, its running task stays: it is the one that took the lock.
+/// own. While it holds one, who executes on it stays: the task or the handler that took the lock.
 pub fn a_spin_lock_has_one_holder()
     ensures boot { (image : ImageOf) (config : Configuration) (board : BoardState) (events : List EventOf) →
         boot image config ≡ Ok board → AreLocks (after board events).kernel }

@@ -134,11 +134,11 @@ meets_other second doer =
 
 -- A spin lock.
 
--- unl_spn
+-- unl_spn, iunl_spn
 abbrev pub frees_spin_lock : Doer → ℕ → Log → Log
 frees_spin_lock doer id = releases_into doer thing.SpinLock id
 
--- loc_spn, try_spn that take it
+-- loc_spn, try_spn, iloc_spn, itry_spn that take it
 abbrev pub takes_spin_lock : Doer → ℕ → Log → Log
 takes_spin_lock doer id = acquires_from doer thing.SpinLock id
 
@@ -155,16 +155,16 @@ acquires_cpu doer = acquires_from doer thing.Processor doer.cpu
 abbrev pub with_lock : Bool → Doer → Log → Log
 with_lock locked doer log = with_hold doer.cpu (record (hold_in log.past doer.cpu) { locked = locked }) log
 
--- unl_cpu there if it was locked
+-- unl_cpu, iunl_cpu there if it was locked
 abbrev pub unlocks_cpu : Doer → Log → Log
 unlocks_cpu doer log =
     with_lock false doer (if (hold_in log.past doer.cpu).locked then releases_cpu doer log else log)
 
--- loc_cpu
+-- loc_cpu, iloc_cpu
 abbrev pub locks_cpu : Doer → Log → Log
 locks_cpu doer log = with_lock true doer (acquires_cpu doer log)
 
--- unl_spn: it was locked
+-- unl_spn, iunl_spn: it was locked
 abbrev pub gives_spin_lock_back : Doer → ℕ → Log → Log
 gives_spin_lock_back doer id log = with_lock false doer (releases_cpu doer (frees_spin_lock doer id log))
 
@@ -172,7 +172,11 @@ gives_spin_lock_back doer id log = with_lock false doer (releases_cpu doer (free
 abbrev pub locks_by_spin_lock : Doer → ℕ → Log → Log
 locks_by_spin_lock doer id log = with_lock true doer (acquires_cpu doer (takes_spin_lock doer id log))
 
--- ret_int there: `releases_cpu`; a handler that begins there: `acquires_cpu`
+-- ret_int there, whether it was locked or not; nothing is released into a spin lock that the handler holds
+abbrev pub ends_handler : Doer → Log → Log
+ends_handler doer log = with_lock false doer (releases_cpu doer log)
+
+-- a handler that begins there: `acquires_cpu`
 
 -- A processor's dispatching.
 

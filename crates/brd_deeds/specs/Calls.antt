@@ -17,7 +17,7 @@ use Rattle.brd_deeds.specs.Places.{sends, forces, receives, begins_to_wait, send
 use Rattle.brd_deeds.specs.Acts.{gives_unit, gets_unit, sets_bits, gets_bits, locks_by_spin_lock, gives_spin_lock_back}
 use Rattle.brd_deeds.specs.Acts.{takes_mutex, gives_mutex_back, gets_block, gives_block_back}
 use Rattle.brd_deeds.specs.Acts.{sends_message, receives_message}
-use Rattle.brd_deeds.specs.Acts.{locks_cpu, unlocks_cpu, releases_cpu, disables_dispatching, enables_dispatching}
+use Rattle.brd_deeds.specs.Acts.{locks_cpu, unlocks_cpu, ends_handler, disables_dispatching, enables_dispatching}
 use Rattle.brd_deeds.specs.Acts.{asks_to_start, starts, takes_starts_back, wakes_up, takes_wake_up, lets_go_on, goes_on}
 use Rattle.brd_deeds.specs.Acts.{resumes, halts, starts_cyclic, starts_alarm}
 
@@ -189,7 +189,7 @@ ends doer log = starts doer.stamp doer.strand (with_hold doer.cpu free log)
 -- a call doesn't return to who makes it
 abbrev pub acts_left : Doer → Call → Log → Log
 acts_left doer call.ExtTsk log = ends doer log
-acts_left doer call.RetInt log = releases_cpu doer log
+acts_left doer call.RetInt log = ends_handler doer log
 acts_left doer _ log = log
 
 -- an answer of a count: neither E_OK nor a refusal, which is a negative number

@@ -1,5 +1,5 @@
 -- The deeds of an event, and of a run.
-use Rattle.std.specs.Prelude.{◌++◌, ◌+◌, nat_lt, ℕ, List, [], ◌∷◌, Option, None, Some, if◌then◌else◌, unwrap_or}
+use Rattle.std.specs.Prelude.{◌++◌, ◌+◌, nat_lt, ℕ, false, if◌then◌else◌, List, [], ◌∷◌, Option, None, Some, unwrap_or}
 use Rattle.brd_kernel.specs.declared.processor.Standing.{Standing}
 use Rattle.brd_config.specs.declared.objects.QueueConfig.{QueueConfig}
 use Rattle.brd_board.specs.declared.event.Event.{Event}
@@ -12,7 +12,7 @@ use Rattle.brd_order.specs.declared.deed.Deed.{Deed}
 use Rattle.brd_deeds.specs.declared.past.{Stamp.Stamp, Past.Past}
 use Rattle.brd_deeds.specs.declared.log.{Doer.Doer, Log.Log}
 use Rattle.brd_deeds.specs.Past.{past_of}
-use Rattle.brd_deeds.specs.Acts.{acquires_cpu, begins_started}
+use Rattle.brd_deeds.specs.Acts.{acquires_cpu, begins_started, with_lock}
 use Rattle.brd_deeds.specs.Trails.{settled, executes, settles_below}
 use Rattle.brd_deeds.specs.Calls.{calls, ends, released}
 
@@ -24,9 +24,12 @@ strand_of (Some Standing.Idle) = None
 strand_of (Some Standing.Stopped) = None
 strand_of None = None
 
--- an exception ends a task; a handler is stopped with its processor for good
+-- An exception ends a task; a handler is stopped with its processor for good, which is CPU-locked no more. But nothing
+-- is released by that, nor into a spin lock that it holds.
 abbrev pub faults : Doer → Log → Log
-faults doer log = if nat_lt doer.strand 256 then ends doer (settled doer.strand log) else settled doer.strand log
+faults doer log =
+    if nat_lt doer.strand 256 then ends doer (settled doer.strand log)
+    else with_lock false doer (settled doer.strand log)
 
 -- what who executes does in an event
 abbrev pub acts_in : Doer → What → BoardState → Log → Log

@@ -13,6 +13,7 @@ ghost use Rattle.brd_deeds.specs.Acts.{
   cyclic_strand,
   disables_dispatching,
   enables_dispatching,
+  ends_handler,
   frees_spin_lock,
   gets_bit,
   gets_bits,
@@ -329,7 +330,7 @@ impl Log {
     }
 
     /// A processor's CPU lock, or its handler, ends.
-    pub(crate) fn release_cpu(&mut self, doer: Doer) -> Result<(), NoMemory>
+    fn release_cpu(&mut self, doer: Doer) -> Result<(), NoMemory>
         ensures { OnOk result (self.new ≡ releases_cpu doer self.old) }
     {
         self.release(doer, ThingKind::Processor, u32::from(doer.cpu))
@@ -343,7 +344,7 @@ impl Log {
     }
 
     /// From now on a processor is CPU-locked, or not.
-    fn put_lock(&mut self, locked: bool, doer: Doer)
+    pub(crate) fn put_lock(&mut self, locked: bool, doer: Doer)
         ensures { self.new ≡ with_lock locked doer self.old }
     {
         let hold = self.past.hold(doer.cpu);
@@ -375,6 +376,15 @@ impl Log {
         ensures { OnOk result (self.new ≡ gives_spin_lock_back doer id self.old) }
     {
         self.free_spin_lock(doer, id)?;
+        self.release_cpu(doer)?;
+        self.put_lock(false, doer);
+        Ok(())
+    }
+
+    /// A handler ends, and with it the CPU lock of its processor.
+    pub(crate) fn end_handler(&mut self, doer: Doer) -> Result<(), NoMemory>
+        ensures { OnOk result (self.new ≡ ends_handler doer self.old) }
+    {
         self.release_cpu(doer)?;
         self.put_lock(false, doer);
         Ok(())

@@ -266,7 +266,7 @@ impl Log {
     {
         match call {
             Call::ExtTsk => self.end(doer),
-            Call::RetInt => self.release_cpu(doer),
+            Call::RetInt => self.end_handler(doer),
             _ => Ok(()),
         }
     }

@@ -67,6 +67,7 @@ impl Log {
         if doer.strand < 256 {
             return self.end(doer);
         }
+        self.put_lock(false, doer);
         Ok(())
     }
 

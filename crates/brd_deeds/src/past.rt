@@ -29,10 +29,10 @@ pub enum Trail {
     Loaded(Touch, Stamp),
 }
 
-/// What a task has set on a processor.
+/// What a task or a handler has set on a processor.
 #[derive(Clone, Copy)]
 pub struct Hold {
-    /// It is CPU-locked, by loc_cpu or a spin lock.
+    /// It is CPU-locked, by loc_cpu, iloc_cpu or a spin lock.
     pub locked: bool,
     /// Dispatching is disabled.
     pub disabled: bool,

@@ -100,9 +100,11 @@ replied-alike f g k cpu one two alike at =
 
 abbrev fits : Place → Call → Bool
 fits place.Handler call.ExtTsk = false
+fits place.LockedHandler call.ExtTsk = false
+fits place.NotHoldingHandler call.ExtTsk = false
 fits place.Anywhere call.ExtTsk = false
 fits _ call.ExtTsk = true
-fits place.Handler call.RetInt = true
+fits place.LockedHandler call.RetInt = true
 fits _ call.RetInt = false
 fits _ _ = true
 
@@ -155,18 +157,23 @@ let-read : (s : State) (who : Caller) (c : Call) → read_of s who ≡ Ok c → 
 let-read s who c is =
     let-of who.agent (read s 4) (read s 2) (arguments_of s) (table_of who.standard) c (table-fits who.standard (arguments_of s)) is
 
-handler-exits : (from : Place) (first : ℕ) → may_call agent.Handler from first ≡ true → fits from call.ExtTsk ≡ true → ⊥
-handler-exits place.Handler first may fit = false≢true fit
-handler-exits place.Anywhere first may fit = false≢true fit
-handler-exits place.Task first may fit = false≢true may
-handler-exits place.LockedTask first may fit = false≢true may
-handler-exits place.NotHolding first may fit = false≢true may
-handler-exits place.Waiting first may fit = false≢true may
-handler-exits place.OnTask first may fit = false≢true may
+handler-exits : (locked holding : Bool) (from : Place) (first : ℕ) → may_call (agent.Handler locked holding) from first ≡ true →
+    fits from call.ExtTsk ≡ true → ⊥
+handler-exits locked holding place.Handler first may fit = false≢true fit
+handler-exits locked holding place.LockedHandler first may fit = false≢true fit
+handler-exits locked holding place.NotHoldingHandler first may fit = false≢true fit
+handler-exits locked holding place.Anywhere first may fit = false≢true fit
+handler-exits locked holding place.Task first may fit = false≢true may
+handler-exits locked holding place.LockedTask first may fit = false≢true may
+handler-exits locked holding place.NotHolding first may fit = false≢true may
+handler-exits locked holding place.Waiting first may fit = false≢true may
+handler-exits locked holding place.OnTask first may fit = false≢true may
 
 task-returns : (id : ℕ) (locked disabled holding : Bool) (from : Place) (first : ℕ) →
     may_call (agent.Task id locked disabled holding) from first ≡ true → fits from call.RetInt ≡ true → ⊥
 task-returns id locked disabled holding place.Handler first may fit = false≢true may
+task-returns id locked disabled holding place.LockedHandler first may fit = false≢true may
+task-returns id locked disabled holding place.NotHoldingHandler first may fit = false≢true may
 task-returns id locked disabled holding place.Anywhere first may fit = false≢true fit
 task-returns id locked disabled holding place.Task first may fit = false≢true fit
 task-returns id locked disabled holding place.LockedTask first may fit = false≢true fit
@@ -176,16 +183,23 @@ task-returns id locked disabled holding place.OnTask first may fit = false≢tru
 
 -- Who makes a call, by who executes.
 
-handler-by : (stopped : Bool) (running handling : Option ℕ) (id : ℕ) (p : Processor) →
-    (if stopped then None else executor_by running handling) ≡ Some executor.Handler → agent_by id p handling ≡ agent.Handler
-handler-by true running handling id p is = let wrong : ⊥ = cc in absurd wrong
-handler-by false running (Some line) id p is = refl
-handler-by false (Some other) None id p is = let wrong : ⊥ = cc in absurd wrong
-handler-by false None None id p is = let wrong : ⊥ = cc in absurd wrong
+-- a handler that executes calls as such
+record CallsAsHandler (found : Option Processor) (id : ℕ) : Type 0 where
+  locked : Bool
+  holding : Bool
+  calls : agent_in id found ≡ agent.Handler locked holding
 
-handler-calls : (found : Option Processor) (id : ℕ) → executor_in found ≡ Some executor.Handler → agent_in id found ≡ agent.Handler
-handler-calls None id is = refl
-handler-calls (Some p) id is = handler-by p.stopped p.running p.handling id p is
+handler-by : (stopped : Bool) (running handling : Option ℕ) (id : ℕ) (p : Processor) → p.handling ≡ handling →
+    (if stopped then None else executor_by running handling) ≡ Some executor.Handler → CallsAsHandler (Some p) id
+handler-by true running handling id p has is = let wrong : ⊥ = cc in absurd wrong
+handler-by false running (Some line) id p has is =
+    record { locked = p.locked; holding = is_some p.spin; calls = ap (agent_by id p) has }
+handler-by false (Some other) None id p has is = let wrong : ⊥ = cc in absurd wrong
+handler-by false None None id p has is = let wrong : ⊥ = cc in absurd wrong
+
+handler-calls : (found : Option Processor) (id : ℕ) → executor_in found ≡ Some executor.Handler → CallsAsHandler found id
+handler-calls None id is = let wrong : ⊥ = cc in absurd wrong
+handler-calls (Some p) id is = handler-by p.stopped p.running p.handling id p refl is
 
 -- a task that executes is the one that runs, and calls as such
 record CallsAsTask (found : Option Processor) (id task : ℕ) : Type 0 where
@@ -221,8 +235,9 @@ exits-at : (f g : Contexts) (k : KernelState) (cpu : ℕ) (who : Executor) (s : 
     AtExecutor f g cpu (Some who) → read_of s (caller_of k cpu) ≡ Ok c → c ≡ call.ExtTsk → At f (caller_on k cpu)
 exits-at f g k cpu executor.Handler s c on at asks is =
     let it = let-read s (caller_of k cpu) c asks in
-    absurd (handler-exits it.from (read s 4)
-    (subst (λ x. may_call x it.from (read s 4) ≡ true) (handler-calls (processor_at k cpu) (caller_on k cpu) on) it.may)
+    let by = handler-calls (processor_at k cpu) (caller_on k cpu) on in
+    absurd (handler-exits by.locked by.holding it.from (read s 4)
+    (subst (λ x. may_call x it.from (read s 4) ≡ true) by.calls it.may)
     (subst (λ x. fits it.from x ≡ true) is it.fit))
 exits-at f g k cpu (executor.Task id) s c on at asks is =
     subst (λ x. At f (unwrap_or x 0)) (sym (task-calls (processor_at k cpu) 0 id on).runs) at
@@ -243,8 +258,9 @@ pub exits-task : (k : KernelState) (cpu : ℕ) (who : Executor) (next s : State)
     executor_on k cpu ≡ Some (executor.Task id)
 exits-task k cpu executor.Handler next s c id on asks is same =
     let it = let-read s (caller_of k cpu) c asks in
-    absurd (handler-exits it.from (read s 4)
-    (subst (λ x. may_call x it.from (read s 4) ≡ true) (handler-calls (processor_at k cpu) (caller_on k cpu) on) it.may)
+    let by = handler-calls (processor_at k cpu) (caller_on k cpu) on in
+    absurd (handler-exits by.locked by.holding it.from (read s 4)
+    (subst (λ x. may_call x it.from (read s 4) ≡ true) by.calls it.may)
     (subst (λ x. fits it.from x ≡ true) is it.fit))
 exits-task k cpu (executor.Task at) next s c id on asks is same =
     on ∙ ap (λ x. Some (executor.Task x)) (sym (ap (λ x. unwrap_or x 0) (task-calls (processor_at k cpu) 0 at on).runs) ∙ same)

@@ -45,7 +45,7 @@ use Rattle.brd_kernel.specs.declared.call.Ercd.TheVariants.{Rlwai}
 use Rattle.brd_kernel.specs.declared.call.Reply.{Reply}
 use Rattle.brd_kernel.specs.declared.call.Reply.TheVariants.{Answer, Silent, Again}
 use Rattle.brd_kernel.specs.Answer.{e_ok, code_of}
-use Rattle.brd_kernel.specs.Kernel.{KernelState, processor_at, with_tasks, with_processor, executor_by, executor_in, executor_on, context_of, with_context_of, context_on, deliverable, handles, can_be_raised}
+use Rattle.brd_kernel.specs.Kernel.{KernelState, processor_at, with_tasks, with_processor, letting_go, executor_by, executor_in, executor_on, context_of, with_context_of, context_on, deliverable, handles, can_be_raised}
 use Rattle.brd_kernel.specs.Waits.{can_wait, with_wait, due_by, due_after, released_in, reason_of, unlisted, broken_off, answer_by, timed_out, all_timed_out, faulted_task, faulted_in, with_released, given_in, all_given_in, quits_in, prioritized}
 use Rattle.brd_kernel.specs.Row.{Served, served}
 use Rattle.brd_kernel.specs.Services.{named, act_tsk, can_act, ext_tsk, ter_tsk, chg_pri, get_pri, mact_tsk, mig_tsk, get_pid, rot_rdq, irot_rdq, get_tid, mark_dsp, mark_cpu, tslp_tsk, wup_tsk, can_wup, rel_wai, sus_tsk, rsm_tsk, dly_tsk, sig_sem, twai_sem, set_flg, clr_flg, twai_flg, tsnd_dtq, fsnd_dtq, trcv_dtq, put_chr, ext_ker, ret_int, loc_spn, try_spn, unl_spn, get_tim, set_tim, sns, mget_tid, mrot_rdq, ref_tsk, ref_sem, ref_flg, ref_dtq, tloc_mtx, unl_mtx, ref_mtx, tget_mpf, rel_mpf, snd_mbx, trcv_mbx, ref_mpf, ref_mbx}
@@ -526,7 +526,7 @@ faulted-task-lives id k cpu p (Some at) other was =
 
 faulted-by-lives : (id : ℕ) (k : KernelState) (cpu : ℕ) (p : Processor) (handling : Option ℕ) → p.handling ≡ handling →
     (executor_by p.running handling ≡ Some (executor.Task id) → ⊥) → LivesIn id k →
-    LivesIn id (if is_some handling then with_processor k cpu (record p { stopped = true }) else faulted_task k cpu p p.running)
+    LivesIn id (if is_some handling then with_processor k cpu (record (letting_go p) { stopped = true }) else faulted_task k cpu p p.running)
 faulted-by-lives id k cpu p (Some line) is other was = was
 faulted-by-lives id k cpu p None is other was = faulted-task-lives id k cpu p p.running (λ runs. other (ap (λ running. executor_by running None) runs)) was
 

@@ -16,7 +16,7 @@ use Rattle.brd_objects.specs.Mutexes.{given, next_owner_in}
 use Rattle.brd_objects.specs.Table.{object_at, object_changed}
 use Rattle.brd_kernel.specs.declared.processor.Processor.{Processor}
 use Rattle.brd_kernel.specs.Answer.{e_ok}
-use Rattle.brd_kernel.specs.Kernel.{KernelState, with_tasks, with_processor, processor_at, unmarked}
+use Rattle.brd_kernel.specs.Kernel.{KernelState, with_tasks, with_processor, processor_at, unmarked, letting_go}
 use Rattle.brd_kernel.specs.Waits.{Change, changed_of, changed_for, leaving, moving, unlisted, reason_of, released_in, broken_off, ended_in, answer_by, timed_out, all_timed_out, rung_at, rung_below, rung, ticked_on, faulted_task, faulted_in, ended_by_fault}
 use Rattle.brd_kernel.specs.Waits.{with_released, has_mutex_in, given_in, given_by_in, given_below, all_given_in, quits_in}
 use Rattle.brd_kernel.specs.Waits.{base_in, bases_below, ceiling_in, ceilings_below, inheritor_of, inheritor_for, inheritors_below, priorities_of, lifted_in, prioritized_by, prioritized_below, prioritized}
@@ -283,8 +283,8 @@ faulted-task-with f g k cpu p (Some id) free =
     (λ task request there queued. absurd (noted-none k.tasks id (task_at k.tasks id) task request refl there queued)))
 
 faulted-if-with : (f g : Contexts) (k : KernelState) (cpu : ℕ) (p : Processor) (handling : Bool) → Unsteady f k.tasks →
-    (if handling then with_processor (k-with f g k) cpu (record p { stopped = true }) else faulted_task (k-with f g k) cpu p p.running)
-    ≡ k-with f g (if handling then with_processor k cpu (record p { stopped = true }) else faulted_task k cpu p p.running)
+    (if handling then with_processor (k-with f g k) cpu (record (letting_go p) { stopped = true }) else faulted_task (k-with f g k) cpu p p.running)
+    ≡ k-with f g (if handling then with_processor k cpu (record (letting_go p) { stopped = true }) else faulted_task k cpu p p.running)
 faulted-if-with f g k cpu p true free = refl
 faulted-if-with f g k cpu p false free = faulted-task-with f g k cpu p p.running free
 

@@ -291,7 +291,7 @@ called-rooms k cpu =
       replies = λ now who s was. rooms-then (put-rooms now cpu who s) was;
       serves = λ now p (c : Call) same there may was.
           rooms-then
-          (serve-leaves (λ new. Rooms new now) now cpu (rooms-law (known_of p (caller_on now cpu)) now cpu (caller_on now cpu))
+          (serve-leaves (λ new. Rooms new now) now cpu (rooms-law (known_of now.standard p (caller_on now cpu)) now cpu (caller_on now cpu))
           (prioritized-rooms now) c may) was;
     }) (rooms-same k)
 

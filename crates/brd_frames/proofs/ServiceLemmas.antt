@@ -445,7 +445,8 @@ serve-alike f g k cpu caller (call.PutChr word) free = row (put_chr k word) _ (�
 serve-alike f g k cpu caller call.ExtKer free = row (ext_ker k) _ (λ x passed. silently _ _ refl)
 serve-alike f g k cpu caller call.RetInt free =
     row (ret_int k cpu) _ (λ (p : Processor) passed.
-    silently _ _ (ap (λ contexts. record (k-with f g (with_processor k cpu (record p { handling = None }))) { handler_contexts = contexts })
+    silently _ _ (ap (λ contexts.
+    record (k-with f g (with_processor k cpu (record (letting_go p) { handling = None }))) { handler_contexts = contexts })
     (sym ((free.returns refl).writes k.handler_contexts no_context))))
 serve-alike f g k cpu caller (call.LocSpn l) free =
     row (loc_spn k cpu l) _ (λ (lock : Spin) passed.

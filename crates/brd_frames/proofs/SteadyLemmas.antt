@@ -37,7 +37,7 @@ use Rattle.brd_kernel.specs.declared.processor.Executor.{Executor}
 use Rattle.brd_kernel.specs.declared.processor.Executor.TheVariants as executor
 use Rattle.brd_kernel.specs.declared.call.Call.{Call}
 use Rattle.brd_kernel.specs.Answer.{e_ok}
-use Rattle.brd_kernel.specs.Kernel.{KernelState, processor_at, is_held, with_tasks, unmarked, executor_by, executor_in, executor_on, context_of, with_context_of, deliverable, pending_from, accepts, handles, accepted_line, can_be_raised}
+use Rattle.brd_kernel.specs.Kernel.{KernelState, processor_at, is_held, with_tasks, unmarked, letting_go, executor_by, executor_in, executor_on, context_of, with_context_of, deliverable, pending_from, accepts, handles, accepted_line, can_be_raised}
 use Rattle.brd_kernel.specs.Waits.{can_wait, with_wait, released_in, reason_of, unlisted, broken_off, answer_by, timed_out, all_timed_out, faulted_task, faulted_in, ended_by_fault, with_released, given_in, all_given_in, quits_in, prioritized}
 use Rattle.brd_kernel.specs.Dispatch.{dispatched_one, dispatched_from, dispatched}
 use Rattle.brd_kernel.specs.Services.{with_all_released_in, with_satisfied_of, handed_over, released_with_second, message_of, unmarked_on, caller_on}
@@ -302,8 +302,9 @@ free-by None false true stopped running caller free runs = absurd (true≢false 
 free-by None false false true running caller free runs = absurd (true≢false free)
 free-by None false false false running caller free runs = ap (λ x. executor_by x None) runs
 
-waits-executes : (p : Processor) (caller : ℕ) → known_of p caller Unheld → executor_in (Some p) ≡ Some (executor.Task caller)
-waits-executes p caller known = free-by p.handling p.locked p.disabled p.stopped p.running caller known.free known.running
+waits-executes : (standard : Bool) (p : Processor) (caller : ℕ) → known_of standard p caller Unheld →
+    executor_in (Some p) ≡ Some (executor.Task caller)
+waits-executes standard p caller known = free-by p.handling p.locked p.disabled p.stopped p.running caller known.free known.running
 
 put-rests-in : (id : ℕ) (k : KernelState) (cpu : ℕ) (who : Executor) (s : State) → RestsIn id k → RestsIn id (with_context_of k cpu who s)
 put-rests-in id k cpu executor.Handler s was = was
@@ -318,11 +319,11 @@ called-rests id k cpu apart was =
       replies = λ now who s was. put-rests-in id now cpu who s was;
       serves = λ now p (c : Call) same there may was.
           serve-leaves (λ new. RestsIn id new) now cpu
-          (rests-law (known_of p (caller_on now cpu)) id now cpu (caller_on now cpu)
+          (rests-law (known_of now.standard p (caller_on now cpu)) id now cpu (caller_on now cpu)
           (λ known is. apart
           (sym (ap (λ ps. executor_in (slice_index_or ps cpu None)) same.processors)
           ∙ ap executor_in there
-          ∙ waits-executes p (caller_on now cpu) known
+          ∙ waits-executes now.standard p (caller_on now cpu) known
           ∙ ap (λ x. Some (executor.Task x)) is)) was) (prioritized-rests id) c may;
     }) was
 
@@ -380,13 +381,13 @@ called-elsewhere at k cpu apart =
       replies = λ now who s was. put-elsewhere at now cpu who s ∙ was;
       serves = λ now p (c : Call) same there may was.
           serve-leaves (λ new. Elsewhere at new now) now cpu
-          (same-law {Known = known_of p (caller_on now cpu)} (λ new. Elsewhere at new now) now cpu (caller_on now cpu) (record {
+          (same-law {Known = known_of now.standard p (caller_on now cpu)} (λ new. Elsewhere at new now) now cpu (caller_on now cpu) (record {
             same = λ new so. same-elsewhere at new now so;
             exits = λ known.
                 unmarked-elsewhere at (quits_in now (caller_on now cpu)) cpu (processor_at now cpu) apart
                 ∙ same-elsewhere at (quits_in now (caller_on now cpu)) now (same-quits now (caller_on now cpu));
             marks = λ p q there runs holding. get_or-set_other now.processors cpu at (Some q) None apart;
-            returns = λ p there. get_or-set_other now.processors cpu at (Some (record p { handling = None })) None apart;
+            returns = λ p there. get_or-set_other now.processors cpu at (Some (record (letting_go p) { handling = None })) None apart;
           })) (λ new so. same-elsewhere at (prioritized new) new (same-prioritized new) ∙ so) c may ∙ was;
     }) refl
 
@@ -406,7 +407,7 @@ if-elsewhere at k one other false first second = second
 faulted-elsewhere : (at : ℕ) (k : KernelState) (cpu : ℕ) (found : Option Processor) → (at ≡ cpu → ⊥) → Elsewhere at (faulted_in k cpu found) k
 faulted-elsewhere at k cpu None apart = refl
 faulted-elsewhere at k cpu (Some p) apart =
-    if-elsewhere at k _ _ (is_some p.handling) (get_or-set_other k.processors cpu at (Some (record p { stopped = true })) None apart)
+    if-elsewhere at k _ _ (is_some p.handling) (get_or-set_other k.processors cpu at (Some (record (letting_go p) { stopped = true })) None apart)
     (faulted-task-elsewhere at k cpu p p.running apart)
 
 handles-elsewhere : (at : ℕ) (k : KernelState) (cpu line : ℕ) (found : Option Processor) → (at ≡ cpu → ⊥) → Elsewhere at (handles k cpu line found) k

@@ -45,25 +45,29 @@ goes_on before after = not ((before.pc == after.pc) && (before.npc == after.npc)
 abbrev pub given : State → Answer
 given s = Given (read s 2) (read s 3)
 
+-- what becomes of a call whose caller doesn't wait
+abbrev pub answer_at_once : State → State → Answer
+answer_at_once before after = if goes_on before after then given after else Again
+
 abbrev pub answer_seen : State → TaskView → Option WaitReason → Answer
 answer_seen before view (Some reason) = Waits reason view.due
-answer_seen before view None = if goes_on before view.context then given view.context else Again
+answer_seen before view None = answer_at_once before view.context
 
 -- what becomes of a task's call
 abbrev pub answer_in_task : State → Option TaskView → Answer
 answer_in_task before None = Never
 answer_in_task before (Some view) = answer_seen before view view.waiting
 
--- what becomes of a handler's call, which always is answered at once
-abbrev pub answer_in_handler : Option State → Answer
-answer_in_handler None = Never
-answer_in_handler (Some s) = given s
+-- what becomes of a handler's call, which never waits
+abbrev pub answer_in_handler : State → Option State → Answer
+answer_in_handler before None = Never
+answer_in_handler before (Some after) = answer_at_once before after
 
 abbrev pub answer_of : Found → BoardState → Standing → Answer
 answer_of found after (Standing.Task id) = answer_in_task found.context (task_of after id)
-answer_of found after (Standing.Handler line) = answer_in_handler (registers_of after found.cpu)
-answer_of found after Standing.Idle = answer_in_handler (registers_of after found.cpu)
-answer_of found after Standing.Stopped = answer_in_handler (registers_of after found.cpu)
+answer_of found after (Standing.Handler line) = answer_in_handler found.context (registers_of after found.cpu)
+answer_of found after Standing.Idle = answer_in_handler found.context (registers_of after found.cpu)
+answer_of found after Standing.Stopped = answer_in_handler found.context (registers_of after found.cpu)
 
 -- the call of the SYSCALL that was found, by the board after it
 abbrev pub call_of : Found → BoardState → CallMade

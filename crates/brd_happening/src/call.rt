@@ -7,6 +7,7 @@ ghost use Rattle.brd_happening.specs.Call.{
   never_returns,
   goes_on,
   given,
+  answer_at_once,
   answer_seen,
   answer_in_task,
   answer_in_handler,
@@ -103,7 +104,7 @@ fn answer_of(found: &Found, after: &Board) -> Answer
 {
     match found.who {
         Standing::Task(id) => answer_in_task(&found.context, after.task(id)),
-        _ => answer_in_handler(after.registers(found.cpu)),
+        _ => answer_in_handler(&found.context, after.registers(found.cpu)),
     }
 }
 
@@ -126,19 +127,28 @@ fn answer_seen(before: &Context, view: &TaskView) -> Answer
             reason,
             due: view.due,
         },
-        None if goes_on(before, &view.context) => given(&view.context),
-        None => Answer::Again,
+        None => answer_at_once(before, &view.context),
     }
 }
 
-/// What becomes of a handler's call.
-fn answer_in_handler(context: Option<Context>) -> Answer
-    ensures { result ≡ answer_in_handler context }
+/// What becomes of a handler's call, which never waits.
+fn answer_in_handler(before: &Context, context: Option<Context>) -> Answer
+    ensures { result ≡ answer_in_handler before.now context }
 {
     match context {
-        Some(context) => given(&context),
+        Some(context) => answer_at_once(before, &context),
         None => Answer::Never,
     }
+}
+
+/// What becomes of a call whose caller doesn't wait.
+fn answer_at_once(before: &Context, after: &Context) -> Answer
+    ensures { result ≡ answer_at_once before.now after.now }
+{
+    if goes_on(before, after) {
+        return given(after);
+    }
+    Answer::Again
 }
 
 /// Whether a caller's next instruction is another one than its SYSCALL.

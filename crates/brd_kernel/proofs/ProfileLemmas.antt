@@ -5,7 +5,7 @@ use Rattle.brd_tasks.specs.Tasks.{noted, without_activation}
 use Rattle.brd_time.specs.Time.{last_count, advanced}
 use Rattle.brd_kernel.specs.declared.processor.Processor.{Processor}
 use Rattle.brd_kernel.specs.declared.call.Call.{Call}
-use Rattle.brd_kernel.specs.Kernel.{KernelState, with_tasks, with_processor, processor_at, accepted_line, handles}
+use Rattle.brd_kernel.specs.Kernel.{KernelState, with_tasks, with_processor, processor_at, letting_go, accepted_line, handles}
 use Rattle.brd_kernel.specs.Waits.{ticked_on, ticked, faulted_task, faulted_in, ended_by_fault, quits_in}
 use Rattle.brd_kernel.specs.Services.{unmarked_on, serve_of, caller_on}
 use Rattle.brd_kernel.proofs.WalkLemmas.{Anything, Law, serve-always}
@@ -46,7 +46,7 @@ faulted-task-alike k cpu p None = refl
 faulted-task-alike k cpu p (Some id) = (same-quits (with_tasks k (noted without_activation k.tasks id)) id).standard
 
 faulted-if : (test : Bool) (k : KernelState) (cpu : ℕ) (p : Processor) →
-    AlikeTo k (if test then with_processor k cpu (record p { stopped = true }) else faulted_task k cpu p p.running)
+    AlikeTo k (if test then with_processor k cpu (record (letting_go p) { stopped = true }) else faulted_task k cpu p p.running)
 faulted-if true k cpu p = refl
 faulted-if false k cpu p = faulted-task-alike k cpu p p.running
 

@@ -13,7 +13,7 @@ use Rattle.brd_kernel.specs.declared.processor.Processor.{Processor}
 use Rattle.brd_kernel.specs.declared.processor.Spin.{Spin}
 use Rattle.brd_kernel.specs.declared.processor.Spin.TheVariants as spin
 use Rattle.brd_kernel.specs.declared.call.Call.{Call}
-use Rattle.brd_kernel.specs.Kernel.{KernelState, with_tasks, with_processor, processor_at, is_held, running_in, running_on, idle, unmarked, holding, is_spin, holds, holder_from, spin_by, has_spin_lock, spin_of, accepts, handles, accepted_line, deliverable, with_pending}
+use Rattle.brd_kernel.specs.Kernel.{KernelState, with_tasks, with_processor, processor_at, is_held, running_in, running_on, executor_by, executor_in, executor_on, idle, unmarked, letting_go, holding, is_spin, holds, holder_from, spin_by, has_spin_lock, spin_of, accepts, handles, accepted_line, deliverable, with_pending}
 use Rattle.brd_kernel.specs.Making.{idle_one, idle_ones}
 use Rattle.brd_kernel.specs.Dispatch.{dispatched_one, dispatched}
 use Rattle.brd_kernel.specs.Holding.{IsHolder, HeldAs, AreLocks}
@@ -24,7 +24,7 @@ use Rattle.brd_kernel.proofs.who_waits.ListLemmas.{same-number, written-at}
 use Rattle.brd_kernel.proofs.DispatchLemmas.{at-dispatched}
 use Rattle.brd_kernel.proofs.SameLemmas.{Same, same-timed, same-law, same-quits, same-prioritized, same-then}
 use Rattle.brd_kernel.proofs.WalkLemmas.{HoldsOn, Holding, Keeps, Opens, Takes, Leaves-none, Law, serve-leaves}
-use Rattle.brd_kernel.proofs.who_runs.RunningCallLemmas.{IsTaskOf, known_of, MayServe}
+use Rattle.brd_kernel.proofs.who_runs.RunningCallLemmas.{IsTaker, known_of, MayServe}
 
 -- The same said by processors.
 
@@ -32,7 +32,7 @@ pub record IsLocking (k : KernelState) : Type 0 where
   pub there : (cpu id : ℕ) → holds id (processor_at k cpu) ≡ true → has_spin_lock k id ≡ true
   pub one : (cpu other id : ℕ) → holds id (processor_at k cpu) ≡ true → holds id (processor_at k other) ≡ true →
       other ≡ cpu
-  pub holders : (cpu id : ℕ) (p : Processor) → processor_at k cpu ≡ Some p → p.spin ≡ Some id → IsHolder p
+  pub holders : (cpu id : ℕ) (p : Processor) → processor_at k cpu ≡ Some p → p.spin ≡ Some id → IsHolder k.standard p
 
 -- who holds a lock that stands so
 holder-of : (k : KernelState) (id cpu : ℕ) (lock : Option Spin) → HeldAs k id lock →
@@ -162,9 +162,10 @@ free-there false first is = absurd (false≢true (ap is_some is))
 -- What an event's effects write: the processor that makes a step, if any, and nothing of another; what is then held on
 -- it was held there before, or was free.
 
--- a processor may hold a lock
+-- a processor may hold a lock: it stands as a holder, and who executes there is who executed there before
 pub record MayHold (k : KernelState) (cpu id : ℕ) (q : Processor) : Type 0 where
-  pub holder : IsHolder q
+  pub holder : IsHolder k.standard q
+  pub executes : executor_in (Some q) ≡ executor_on k cpu
   pub there : has_spin_lock k id ≡ true
   pub alone : (other : ℕ) → holds id (processor_at k other) ≡ true → other ≡ cpu
 
@@ -180,6 +181,7 @@ OwnAfter k cpu (Some p) now = Written k cpu p now
 
 pub record Wrote (k : KernelState) (cpu : ℕ) (new : KernelState) : Type 0 where
   pub spin_locks : new.spin_locks ≡ k.spin_locks
+  pub standard : new.standard ≡ k.standard
   pub others : (at : ℕ) → (cpu == at) ≡ false → processor_at new at ≡ processor_at k at
   pub own : OwnAfter k cpu (processor_at k cpu) (processor_at new cpu)
 
@@ -196,11 +198,16 @@ holds-by k cpu id p there is = ap (holds id) there ∙ is-spin id p.spin is
 
 -- what a processor may hold that holds it already
 kept-hold : (k : KernelState) (cpu id : ℕ) (p q : Processor) → processor_at k cpu ≡ Some p → p.spin ≡ Some id →
-    IsHolder q → IsLocking k →
+    IsHolder k.standard q → executor_in (Some q) ≡ executor_in (Some p) → IsLocking k →
     MayHold k cpu id q
-kept-hold k cpu id p q there is holder was =
+kept-hold k cpu id p q there is holder same was =
     let held : holds id (processor_at k cpu) ≡ true = holds-by k cpu id p there is in
-    record { holder = holder; there = was.there cpu id held; alone = λ other also. was.one cpu other id held also }
+    record {
+      holder = holder;
+      executes = same ∙ sym (ap executor_in there);
+      there = was.there cpu id held;
+      alone = λ other also. was.one cpu other id held also;
+    }
 
 own-same : (k : KernelState) (cpu : ℕ) (found now : Option Processor) → processor_at k cpu ≡ found → now ≡ found →
     IsLocking k → OwnAfter k cpu found now
@@ -209,13 +216,14 @@ own-same k cpu (Some p) now there same was = record {
   q = p;
   is = same;
   running = refl;
-  may = λ id is. kept-hold k cpu id p p there is (was.holders cpu id p there is) was;
+  may = λ id is. kept-hold k cpu id p p there is (was.holders cpu id p there is) refl was;
 }
 
 -- nothing of processors and spin locks is written
 pub same-wrote : (k : KernelState) (cpu : ℕ) (new : KernelState) → IsLocking k → Same new k → Wrote k cpu new
 same-wrote k cpu new was same = record {
   spin_locks = same.spin_locks;
+  standard = same.standard;
   others = λ at other. ap (λ ps. slice_index_or ps at None) same.processors;
   own = own-same k cpu (processor_at k cpu) (processor_at new cpu) refl
       (ap (λ ps. slice_index_or ps cpu None) same.processors) was;
@@ -224,14 +232,15 @@ same-wrote k cpu new was same = record {
 -- a processor is written anew
 put-wrote : (k : KernelState) (cpu : ℕ) (p q : Processor) (new : KernelState) →
     new.processors ≡ slice_set k.processors cpu (Some q) →
-    new.spin_locks ≡ k.spin_locks → processor_at k cpu ≡ Some p → q.running ≡ p.running →
+    new.spin_locks ≡ k.spin_locks → new.standard ≡ k.standard → processor_at k cpu ≡ Some p → q.running ≡ p.running →
     ((id : ℕ) → q.spin ≡ Some id → MayHold k cpu id q) →
     Wrote k cpu new
-put-wrote k cpu p q new same locks there running may =
+put-wrote k cpu p q new same locks standard there running may =
     let written : (at : ℕ) → processor_at new at ≡ (if cpu == at then Some q else processor_at k at) =
     λ at. ap (λ ps. slice_index_or ps at None) same ∙ written-at k.processors cpu at p (Some q) there in
     record {
       spin_locks = locks;
+      standard = standard;
       others = λ at other. written at ∙ ap (λ t. if t then Some q else processor_at k at) other;
       own = subst (λ found. OwnAfter k cpu found (processor_at new cpu)) (sym there)
           (record {
@@ -248,33 +257,25 @@ holds-none held id none is = absurd (false≢true (ap is_some (sym none ∙ is))
 
 -- Marks.
 
--- a processor that holds on stands as a holder
-holds-on : (p q : Processor) → HoldsOn p q → q.running ≡ p.running → IsHolder p → IsHolder q
-holds-on p q on running was = record {
+-- on a processor that holds on executes who did, and it stands as a holder
+
+same-executor : (p q : Processor) → q.running ≡ p.running → HoldsOn p q → executor_in (Some q) ≡ executor_in (Some p)
+same-executor p q running on =
+    ap (λ stopped. if stopped then None else executor_by q.running q.handling) on.on
+    ∙ ap (λ handling. if p.stopped then None else executor_by q.running handling) on.handling
+    ∙ ap (λ task. if p.stopped then None else executor_by task p.handling) running
+
+holds-on : (standard : Bool) (p q : Processor) → HoldsOn p q → q.running ≡ p.running → IsHolder standard p →
+    IsHolder standard q
+holds-on standard p q on running was = record {
   locked = on.locked was.locked;
-  handling = on.handling ∙ was.handling;
-  on = on.on ∙ was.on;
-  runs = ap is_some running ∙ was.runs;
+  executes = ap is_some (same-executor p q running on) ∙ was.executes;
+  plain = λ none. on.handling ∙ was.plain none;
 }
 
-handles-none : (handling : Option ℕ) (stopped : Bool) → (is_some handling || false || false || stopped) ≡ false →
-    handling ≡ None
-handles-none None stopped free = refl
-handles-none (Some line) stopped free = absurd (true≢false free)
-
-runs-on : (handling stopped : Bool) → (handling || false || false || stopped) ≡ false → stopped ≡ false
-runs-on handling stopped free = grind (arith, free)
-
--- a task's processor, once it is CPU-locked
-taken-holder : (p : Processor) (id caller : ℕ) → IsTaskOf p caller → IsHolder (holding id p)
-taken-holder p id caller of =
-    let free : (is_some p.handling || false || false || p.stopped) ≡ false = of.unmarked_free in
-    record {
-      locked = refl;
-      handling = handles-none p.handling p.stopped free;
-      on = runs-on (is_some p.handling) p.stopped free;
-      runs = ap is_some of.running;
-    }
+-- one that may take a spin lock does, once it is CPU-locked
+taken-holder : (standard : Bool) (p : Processor) (id : ℕ) → IsTaker standard p → IsHolder standard (holding id p)
+taken-holder standard p id may = record { locked = refl; executes = may.executes; plain = may.plain }
 
 abbrev spin_in : Option Processor → Option ℕ
 spin_in None = None
@@ -282,28 +283,29 @@ spin_in (Some p) = p.spin
 
 marked-wrote : (k : KernelState) (cpu : ℕ) (here p q : Processor) → processor_at k cpu ≡ Some here →
     processor_at k cpu ≡ Some p →
-    q.running ≡ p.running → Holding (known_of here (caller_on k cpu)) k p q → IsLocking k → Wrote k cpu
-    (with_processor k cpu q)
+    q.running ≡ p.running → Holding (known_of k.standard here (caller_on k cpu)) k p q → IsLocking k →
+    Wrote k cpu (with_processor k cpu q)
 marked-wrote k cpu here p q found there running (Keeps on) was =
-    put-wrote k cpu p q (with_processor k cpu q) refl refl there running
+    put-wrote k cpu p q (with_processor k cpu q) refl refl refl there running
     (λ id is. let held : p.spin ≡ Some id = sym on.spin ∙ is in
-    kept-hold k cpu id p q there held (holds-on p q on running (was.holders cpu id p there held)) was)
+    kept-hold k cpu id p q there held (holds-on k.standard p q on running (was.holders cpu id p there held))
+    (same-executor p q running on) was)
 marked-wrote k cpu here p q found there running (Opens none same) was =
-    put-wrote k cpu p q (with_processor k cpu q) refl refl there running
+    put-wrote k cpu p q (with_processor k cpu q) refl refl refl there running
     (λ id is. holds-none q.spin id (same ∙ ap spin_in (sym there ∙ found) ∙ none) is)
-marked-wrote k cpu here p q found there running (Takes id free of is) was =
-    put-wrote k cpu p q (with_processor k cpu q) refl refl there running
+marked-wrote k cpu here p q found there running (Takes id free may is) was =
+    put-wrote k cpu p q (with_processor k cpu q) refl refl refl there running
     (λ other held. let named : id ≡ other = ap (λ o. unwrap_or o 0) (ap (λ (r : Processor). r.spin) (sym is) ∙ held) in
     let one : here ≡ p = ap (λ o. unwrap_or o p) (sym found ∙ there) in
     subst (λ n. MayHold k cpu n q) named
     (record {
-      holder = subst IsHolder (sym is)
-          (taken-holder p id (caller_on k cpu) (subst (λ x. IsTaskOf x (caller_on k cpu)) one of));
+      holder = subst (IsHolder k.standard) (sym is) (taken-holder k.standard p id (subst (IsTaker k.standard) one may));
+      executes = ap (λ (r : Processor). executor_in (Some r)) is ∙ sym (ap executor_in there);
       there = free-there (has_spin_lock k id) (holder_from id 0 k.processors) free;
       alone = λ at also. absurd (false≢true (sym (free-unheld k id at was free) ∙ also));
     }))
 marked-wrote k cpu here p q found there running (Leaves-none none) was =
-    put-wrote k cpu p q (with_processor k cpu q) refl refl there running (λ id is. holds-none q.spin id none is)
+    put-wrote k cpu p q (with_processor k cpu q) refl refl refl there running (λ id is. holds-none q.spin id none is)
 
 -- Ends.
 
@@ -313,21 +315,19 @@ unmarked-wrote : (k out : KernelState) (cpu : ℕ) (found : Option Processor) �
 unmarked-wrote k out cpu None there same was = same-wrote k cpu out was same
 unmarked-wrote k out cpu (Some p) there same was =
     put-wrote k cpu p (unmarked p) (with_processor out cpu (unmarked p))
-    (ap (λ ps. slice_set ps cpu (Some (unmarked p))) same.processors) same.spin_locks
+    (ap (λ ps. slice_set ps cpu (Some (unmarked p))) same.processors) same.spin_locks same.standard
     there refl (λ id is. holds-none None id refl is)
 
-returned-wrote : (k : KernelState) (cpu : ℕ) (p : Processor) → processor_at k cpu ≡ Some p → IsLocking k →
+returned-wrote : (k : KernelState) (cpu : ℕ) (p : Processor) → processor_at k cpu ≡ Some p →
     Wrote k cpu (handler_ended k cpu p)
-returned-wrote k cpu p there was =
-    put-wrote k cpu p (record p { handling = None }) (handler_ended k cpu p) refl refl there refl
-    (λ id is. let holder : IsHolder p = was.holders cpu id p there is in
-    kept-hold k cpu id p (record p { handling = None }) there is
-    (record { locked = holder.locked; handling = refl; on = holder.on; runs = holder.runs }) was)
+returned-wrote k cpu p there =
+    put-wrote k cpu p (record (letting_go p) { handling = None }) (handler_ended k cpu p) refl refl refl there refl
+    (λ id is. holds-none None id refl is)
 
 -- Service calls.
 
 spin-law : (k : KernelState) (cpu : ℕ) (p : Processor) → processor_at k cpu ≡ Some p → IsLocking k →
-    Law (known_of p (caller_on k cpu)) (Wrote k cpu) k cpu (caller_on k cpu)
+    Law (known_of k.standard p (caller_on k cpu)) (Wrote k cpu) k cpu (caller_on k cpu)
 spin-law k cpu p found was =
     let caller : ℕ = caller_on k cpu in
     same-law (Wrote k cpu) k cpu caller
@@ -335,33 +335,33 @@ spin-law k cpu p found was =
       same = λ new is. same-wrote k cpu new was is;
       exits = λ may. unmarked-wrote k (quits_in k caller) cpu (processor_at k cpu) refl (same-quits k caller) was;
       marks = λ q new there running how. marked-wrote k cpu p q new found there running how was;
-      returns = λ q there. returned-wrote k cpu q there was;
+      returns = λ q there. returned-wrote k cpu q there;
     })
 
 -- what is written since is the same
 wrote-same : (k : KernelState) (cpu : ℕ) (now new : KernelState) → Same new now → Wrote k cpu now → Wrote k cpu new
 wrote-same k cpu now new same was = record {
   spin_locks = same.spin_locks ∙ was.spin_locks;
+  standard = same.standard ∙ was.standard;
   others = λ at other. ap (λ ps. slice_index_or ps at None) same.processors ∙ was.others at other;
   own = subst (OwnAfter k cpu (processor_at k cpu)) (sym (ap (λ ps. slice_index_or ps cpu None) same.processors)) was.own;
 }
 
 -- a call that the gate lets through
 pub serve-wrote : (k : KernelState) (cpu : ℕ) (p : Processor) (c : Call) → processor_at k cpu ≡ Some p →
-    MayServe p (caller_on k cpu) c →
+    MayServe k.standard p (caller_on k cpu) c →
     IsLocking k → Wrote k cpu (serve_of k cpu c).kernel
 serve-wrote k cpu p c there may was =
     serve-leaves (Wrote k cpu) k cpu (spin-law k cpu p there was) (λ new wrote. wrote-same k cpu new (prioritized new) (same-prioritized new) wrote) c may
 
 -- Exceptions.
 
-stopped-wrote : (k : KernelState) (cpu : ℕ) (p : Processor) → processor_at k cpu ≡ Some p → is_some p.handling ≡ true →
-    IsLocking k →
-    Wrote k cpu (with_processor k cpu (record p { stopped = true }))
-stopped-wrote k cpu p there handling was =
-    put-wrote k cpu p (record p { stopped = true })
-    (with_processor k cpu (record p { stopped = true })) refl refl there refl
-    (λ id is. absurd (false≢true (ap is_some (sym (was.holders cpu id p there is).handling) ∙ handling)))
+stopped-wrote : (k : KernelState) (cpu : ℕ) (p : Processor) → processor_at k cpu ≡ Some p →
+    Wrote k cpu (with_processor k cpu (record (letting_go p) { stopped = true }))
+stopped-wrote k cpu p there =
+    put-wrote k cpu p (record (letting_go p) { stopped = true })
+    (with_processor k cpu (record (letting_go p) { stopped = true })) refl refl refl there refl
+    (λ id is. holds-none None id refl is)
 
 faulted-task-wrote : (k : KernelState) (cpu : ℕ) (p : Processor) (running : Option ℕ) → processor_at k cpu ≡ Some p →
     IsLocking k →
@@ -372,19 +372,19 @@ faulted-task-wrote k cpu p (Some id) there was =
     let only : Same (quits_in on id) on = same-quits on id in
     put-wrote k cpu p (unmarked p) (with_processor (quits_in on id) cpu (unmarked p))
     (ap (λ ps. slice_set ps cpu (Some (unmarked p))) only.processors)
-    only.spin_locks there refl (λ other is. holds-none None other refl is)
+    only.spin_locks only.standard there refl (λ other is. holds-none None other refl is)
 
-faulted-by : (handling : Bool) (k : KernelState) (cpu : ℕ) (p : Processor) → is_some p.handling ≡ handling →
-    processor_at k cpu ≡ Some p → IsLocking k →
-    Wrote k cpu
-    (if handling then with_processor k cpu (record p { stopped = true }) else faulted_task k cpu p p.running)
-faulted-by true k cpu p test there was = stopped-wrote k cpu p there test was
-faulted-by false k cpu p test there was = faulted-task-wrote k cpu p p.running there was
+faulted-by : (handling : Bool) (k : KernelState) (cpu : ℕ) (p : Processor) → processor_at k cpu ≡ Some p →
+    IsLocking k → Wrote k cpu
+    (if handling then with_processor k cpu (record (letting_go p) { stopped = true })
+    else faulted_task k cpu p p.running)
+faulted-by true k cpu p there was = stopped-wrote k cpu p there
+faulted-by false k cpu p there was = faulted-task-wrote k cpu p p.running there was
 
 faulted-wrote : (k : KernelState) (cpu : ℕ) (found : Option Processor) → processor_at k cpu ≡ found → IsLocking k →
     Wrote k cpu (faulted_in k cpu found)
 faulted-wrote k cpu None there was = same-wrote k cpu k was (record { processors = refl; spin_locks = refl; standard = refl })
-faulted-wrote k cpu (Some p) there was = faulted-by (is_some p.handling) k cpu p refl there was
+faulted-wrote k cpu (Some p) there was = faulted-by (is_some p.handling) k cpu p there was
 
 pub fault-wrote : (k : KernelState) (cpu : ℕ) → IsLocking k → Wrote k cpu (ended_by_fault k cpu)
 fault-wrote k cpu was =
@@ -401,7 +401,7 @@ handles-wrote : (k : KernelState) (cpu line : ℕ) (found : Option Processor) �
     Wrote k cpu (handles k cpu line found)
 handles-wrote k cpu line None there accept was = absurd (false≢true accept)
 handles-wrote k cpu line (Some p) there accept was =
-    put-wrote k cpu p (record p { handling = Some line }) (handles k cpu line (Some p)) refl refl there refl
+    put-wrote k cpu p (record p { handling = Some line }) (handles k cpu line (Some p)) refl refl refl there refl
     (λ id is. absurd
     (false≢true
     (sym (unlocked (is_some p.handling) p.locked p.stopped accept) ∙ (was.holders cpu id p there is).locked)))
@@ -441,8 +441,8 @@ locking-same k new same was = record {
   one = λ cpu other id is also. was.one cpu other id
       (ap (λ ps. holds id (slice_index_or ps cpu None)) (sym same.processors) ∙ is)
       (ap (λ ps. holds id (slice_index_or ps other None)) (sym same.processors) ∙ also);
-  holders = λ cpu id p there is. was.holders cpu id p
-      (ap (λ ps. slice_index_or ps cpu None) (sym same.processors) ∙ there) is;
+  holders = λ cpu id p there is. subst (λ standard. IsHolder standard p) (sym same.standard)
+      (was.holders cpu id p (ap (λ ps. slice_index_or ps cpu None) (sym same.processors) ∙ there) is);
 }
 
 ticked-if : (test : Bool) (k new : KernelState) → Same new k → IsLocking k → IsLocking (if test then new else k)
@@ -499,10 +499,10 @@ wrote-one false false k new cpu at other id test also wrote was is held =
 
 wrote-holder : (here : Bool) (k new : KernelState) (cpu at id : ℕ) (p : Processor) → (cpu == at) ≡ here →
     Wrote k cpu new → IsLocking k →
-    processor_at new at ≡ Some p → p.spin ≡ Some id → IsHolder p
+    processor_at new at ≡ Some p → p.spin ≡ Some id → IsHolder k.standard p
 wrote-holder true k new cpu at id p test wrote was there is =
     let mine : Own k cpu id (processor_at new at) = own-of k new cpu id at wrote test (holds-by new at id p there is) in
-    subst IsHolder (ap (λ o. unwrap_or o p) (sym mine.is ∙ there)) mine.may.holder
+    subst (IsHolder k.standard) (ap (λ o. unwrap_or o p) (sym mine.is ∙ there)) mine.may.holder
 wrote-holder false k new cpu at id p test wrote was there is =
     was.holders at id p (sym (wrote.others at test) ∙ there) is
 
@@ -511,7 +511,8 @@ wrote-locking k new cpu wrote was = record {
   there = λ at id is. ap (λ l. slice_index_or l id false) wrote.spin_locks
       ∙ wrote-there (cpu == at) k new cpu at id refl wrote was is;
   one = λ at other id is also. wrote-one (cpu == at) (cpu == other) k new cpu at other id refl refl wrote was is also;
-  holders = λ at id p there is. wrote-holder (cpu == at) k new cpu at id p refl wrote was there is;
+  holders = λ at id p there is. subst (λ standard. IsHolder standard p) (sym wrote.standard)
+      (wrote-holder (cpu == at) k new cpu at id p refl wrote was there is);
 }
 
 -- whoever runs goes on, until the dispatch
@@ -530,6 +531,19 @@ runs-by false k new cpu at test wrote = ap running_in (wrote.others at test)
 
 pub wrote-runs : (k new : KernelState) (cpu at : ℕ) → Wrote k cpu new → running_on new at ≡ running_on k at
 wrote-runs k new cpu at wrote = runs-by (cpu == at) k new cpu at refl wrote
+
+-- and who executes on a processor that holds a lock then is who executed there
+
+executes-by : (here : Bool) (k new : KernelState) (cpu at id : ℕ) → (cpu == at) ≡ here → Wrote k cpu new →
+    holds id (processor_at new at) ≡ true → executor_on new at ≡ executor_on k at
+executes-by true k new cpu at id test wrote held =
+    let mine : Own k cpu id (processor_at new at) = own-of k new cpu id at wrote test held in
+    ap executor_in mine.is ∙ mine.may.executes ∙ ap (executor_on k) (same-number cpu at test)
+executes-by false k new cpu at id test wrote held = ap executor_in (wrote.others at test)
+
+pub wrote-executes : (k new : KernelState) (cpu at id : ℕ) → Wrote k cpu new → holds id (processor_at new at) ≡ true →
+    executor_on new at ≡ executor_on k at
+wrote-executes k new cpu at id wrote held = executes-by (cpu == at) k new cpu at id refl wrote held
 
 -- The dispatch.
 
@@ -553,8 +567,8 @@ locked-held : (handling locked disabled stopped : Bool) → locked ≡ true →
     (handling || locked || disabled || stopped) ≡ true
 locked-held handling locked disabled stopped is = grind (arith, is)
 
-holder-held : (p : Processor) → IsHolder p → is_held p ≡ true
-holder-held p is = locked-held (is_some p.handling) p.locked p.disabled p.stopped is.locked
+holder-held : (standard : Bool) (p : Processor) → IsHolder standard p → is_held p ≡ true
+holder-held standard p is = locked-held (is_some p.handling) p.locked p.disabled p.stopped is.locked
 
 stays-by : (k : KernelState) (cpu id : ℕ) (found : Option Processor) → processor_at k cpu ≡ found →
     holds id found ≡ true → IsLocking k →
@@ -562,7 +576,7 @@ stays-by : (k : KernelState) (cpu id : ℕ) (found : Option Processor) → proce
 stays-by k cpu id None there is was = refl
 stays-by k cpu id (Some p) there is was =
     ap (λ h. Some (if h then p else record p { running = first_id (ready_on k.tasks cpu) }))
-    (holder-held p (was.holders cpu id p there (spin-is id p.spin is)))
+    (holder-held k.standard p (was.holders cpu id p there (spin-is id p.spin is)))
 
 -- a holder stays as it is
 pub holder-stays : (k : KernelState) (cpu id : ℕ) → IsLocking k → holds id (processor_at k cpu) ≡ true →

@@ -109,10 +109,12 @@ awaiting k caller id (No-block p there none) = in_pool k caller id
 awaiting k caller id (No-message m there none) = in_mailbox k caller id
 
 -- What the gate may have shown of a caller: its processor isn't held; it is the task that runs there, and no handler;
--- its processor holds no spin lock.
+-- its processor may take a spin lock: the task that runs there executes, or with the profile its handler; its processor
+-- holds no spin lock.
 pub data Fact : Type 0 where
   Unheld : Fact
   OfTask : Fact
+  MayTake : Fact
   HoldsNone : Fact
 
 -- a processor goes on holding the spin lock that it holds, if it holds one, and stands as it did
@@ -127,13 +129,13 @@ pub record HoldsOn (p q : Processor) : Type 0 where
 pub data Holding (Known : Fact → Type 0) (k : KernelState) (p q : Processor) : Type 0 where
   Keeps : HoldsOn p q → Holding Known k p q
   Opens : Known HoldsNone → q.spin ≡ p.spin → Holding Known k p q
-  Takes : (id : ℕ) → spin_of k id ≡ Some spin.Free → Known OfTask → q ≡ holding id p → Holding Known k p q
+  Takes : (id : ℕ) → spin_of k id ≡ Some spin.Free → Known MayTake → q ≡ holding id p → Holding Known k p q
   Leaves-none : q.spin ≡ None → Holding Known k p q
 
 -- What a law says of each effect that a call of a caller on a processor can have: `Q` is what holds after it. `Known`
 -- is what is known of the caller: that its processor isn't held where it stops running (it waits, or suspends or
--- migrates itself), that it is a task where it ends or takes a spin lock, and that its processor holds none where the
--- CPU lock is taken away.
+-- migrates itself), that it is a task where it ends, that its processor may take a spin lock where it takes one, and
+-- that it holds none where the CPU lock is taken away.
 pub record Law (Known : Fact → Type 0) (Q : KernelState → Type 0) (k : KernelState) (cpu caller : ℕ) : Type 0 where
   -- nothing changes
   pub stays : Q k
@@ -237,7 +239,7 @@ stop_of _ = GoesOn
 -- What has to be known of the caller of a call by that.
 abbrev pub MayStop : (Fact → Type 0) → ℕ → CallerStop → Type 0
 MayStop Known caller GoesOn = Unit {0}
-MayStop Known caller Locks = Known OfTask
+MayStop Known caller Locks = Known MayTake
 MayStop Known caller Unlocks = Known HoldsNone
 MayStop Known caller (MayWait timeout) = (timeout == 0) ≡ false → Known Unheld
 MayStop Known caller Waits = Known Unheld
@@ -349,14 +351,14 @@ is-held : (k : KernelState) (id : ℕ) (lock : Spin) → is_no_id id ≡ false �
 is-held k id lock good there taken = ap (λ bad. not bad && is_there_taken (spin_of k id)) good ∙ ap is_there_taken there ∙ taken
 
 takes-by : {Known : Fact → Type 0} (Q : Wanted) (k : KernelState) (cpu caller : ℕ) (law : Law Known Q.kernel k cpu caller) (id : ℕ) (lock : Spin)
-    (found : Option Processor) → processor_at k cpu ≡ found → spin_of k id ≡ Some lock → is_taken lock ≡ false → Known OfTask →
+    (found : Option Processor) → processor_at k cpu ≡ found → spin_of k id ≡ Some lock → is_taken lock ≡ false → Known MayTake →
     Q.kernel (lock_taken_by k cpu id found)
 takes-by Q k cpu caller law id lock None is there free may = law.stays
 takes-by Q k cpu caller law id lock (Some p) is there free may =
     law.marks p (holding id p) is refl (Takes id (there ∙ ap Some (is-free lock free)) may refl)
 
 takes-lock : {Known : Fact → Type 0} (Q : Wanted) (k : KernelState) (cpu caller : ℕ) (law : Law Known Q.kernel k cpu caller) (id : ℕ) (lock : Spin) →
-    spin_of k id ≡ Some lock → is_taken lock ≡ false → Known OfTask → Q.kernel (lock_taken k cpu id)
+    spin_of k id ≡ Some lock → is_taken lock ≡ false → Known MayTake → Q.kernel (lock_taken k cpu id)
 takes-lock Q k cpu caller law id lock there free may = takes-by Q k cpu caller law id lock (processor_at k cpu) refl there free may
 
 gives-by : {Known : Fact → Type 0} (Q : Wanted) (k : KernelState) (cpu caller : ℕ) (law : Law Known Q.kernel k cpu caller)

@@ -474,8 +474,8 @@ abbrev pub mark_dsp : KernelState → ℕ → Bool → Row Processor
 mark_dsp k cpu disabled =
     record (on_own_processor k cpu) { does = λ p. ok (with_processor k cpu (record p { disabled = disabled })) }
 
--- 14 loc_cpu, 15 unl_cpu. From then on the caller's processor is CPU-locked, or not; it may have been so before. (While
--- the processor holds a spin lock, the gate refuses unl_cpu: CTX.)
+-- 14 loc_cpu, 15 unl_cpu, 101 iloc_cpu, 102 iunl_cpu. From then on the caller's processor is CPU-locked, or not; it may
+-- have been so before. (While the processor holds a spin lock, the gate refuses unl_cpu and iunl_cpu: CTX.)
 abbrev pub mark_cpu : KernelState → ℕ → Bool → Row Processor
 mark_cpu k cpu locked =
     record (on_own_processor k cpu) { does = λ p. ok (with_processor k cpu (record p { locked = locked })) }
@@ -639,13 +639,13 @@ irot_rdq k cpu priority = record (on_own_processor k cpu) {
   does = λ p. ok (with_tasks k (turned k.tasks cpu priority));
 }
 
--- the handler of a processor has ended, and nothing is left of it
+-- the handler of a processor has ended, and nothing is left of it: no CPU lock, no spin lock that it holds
 abbrev pub handler_ended : KernelState → ℕ → Processor → KernelState
-handler_ended k cpu p = record (with_processor k cpu (record p { handling = None })) {
+handler_ended k cpu p = record (with_processor k cpu (record (letting_go p) { handling = None })) {
   handler_contexts = slice_set k.handler_contexts cpu no_context;
 }
 
--- 58 ret_int. Ends the handler.
+-- 58 ret_int. Ends the handler, and with it CPU lock and spin lock that it leaves.
 abbrev pub ret_int : KernelState → ℕ → Row Processor
 ret_int k cpu = record (on_own_processor k cpu) { does = λ p. silent (handler_ended k cpu p) }
 
@@ -672,17 +672,17 @@ lock_given_by k cpu (Some p) = with_processor k cpu (letting_go p)
 abbrev pub lock_given : KernelState → ℕ → KernelState
 lock_given k cpu = lock_given_by k cpu (processor_at k cpu)
 
--- 60 loc_spn L. Takes the lock where it is free; where it is held, the call is made again.
+-- 60 loc_spn L, 103 iloc_spn L. Takes the lock where it is free; where it is held, the call is made again.
 abbrev pub loc_spn : KernelState → ℕ → ℕ → Row Spin
 loc_spn k cpu id = record (on_spin_lock k id) {
   does = λ lock. if is_taken lock then again k else ok (lock_taken k cpu id);
 }
 
--- 61 try_spn L. Refuses: OBJ held. Takes the lock.
+-- 61 try_spn L, 104 itry_spn L. Refuses: OBJ held. Takes the lock.
 abbrev pub try_spn : KernelState → ℕ → ℕ → Row Spin
 try_spn k cpu id = record (on_spin_lock k id) { obj = is_taken; does = λ lock. ok (lock_taken k cpu id) }
 
--- 62 unl_spn L. Refuses: ILUSE the caller's processor doesn't hold it. Gives the lock back.
+-- 62 unl_spn L, 105 iunl_spn L. Refuses: ILUSE the caller's processor doesn't hold it. Gives the lock back.
 abbrev pub unl_spn : KernelState → ℕ → ℕ → Row Spin
 unl_spn k cpu id = record (on_spin_lock k id) {
   iluse = λ lock. not (holds id (processor_at k cpu));
@@ -992,7 +992,8 @@ with_priorities (Err code) = Err code
 abbrev pub serve_of : KernelState → ℕ → Call → Served
 serve_of k cpu call = or_refused k (with_priorities (serve_by k cpu (caller_on k cpu) call))
 
--- A call that is to be made again: loc_spn of a spin lock that is held. The gate asks this before the caller goes on.
+-- A call that is to be made again: loc_spn, iloc_spn of a spin lock that is held. The gate asks this before the caller
+-- goes on.
 
 abbrev pub is_there_taken : Option Spin → Bool
 is_there_taken None = false

@@ -33,7 +33,7 @@ use Rattle.brd_objects.specs.Mailboxes.{MailboxState, mailbox_left, mailbox_reor
 use Rattle.brd_kernel.specs.declared.processor.Processor.{Processor}
 use Rattle.brd_kernel.specs.declared.call.Ercd.TheVariants.{Tmout}
 use Rattle.brd_kernel.specs.Answer.{e_ok, code_of}
-use Rattle.brd_kernel.specs.Kernel.{KernelState, with_tasks, with_processor, processor_at, unmarked, line_at}
+use Rattle.brd_kernel.specs.Kernel.{KernelState, with_tasks, with_processor, processor_at, unmarked, letting_go, line_at}
 use Rattle.brd_kernel.specs.Kernel.{timer_line}
 
 -- How long a call may wait, as its caller says it: a signed number of ticks, of which -1 (TMO_FEVR) is without an end
@@ -337,9 +337,11 @@ faulted_task k cpu p (Some id) =
 abbrev pub faulted_in : KernelState → ℕ → Option Processor → KernelState
 faulted_in k cpu None = k
 faulted_in k cpu (Some p) =
-    if is_some p.handling then with_processor k cpu (record p { stopped = true }) else faulted_task k cpu p p.running
+    if is_some p.handling then with_processor k cpu (record (letting_go p) { stopped = true })
+    else faulted_task k cpu p p.running
 
--- An exception on a processor: in a handler it stops the processor for good, else it ends the running task.
+-- An exception on a processor: in a handler it stops the processor for good, and frees the spin lock that it holds,
+-- else it ends the running task.
 abbrev pub ended_by_fault : KernelState → ℕ → KernelState
 ended_by_fault k cpu = prioritized (faulted_in k cpu (processor_at k cpu))
 

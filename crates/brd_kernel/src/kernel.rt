@@ -441,7 +441,7 @@ impl Kernel {
                 cpu,
                 Processor {
                     stopped: true,
-                    ..processor
+                    ..processor.letting_go()
                 },
             );
             return;

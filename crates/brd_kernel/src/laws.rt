@@ -69,8 +69,8 @@ pub fn the_profile_stays()
 
 /// This holds of a kernel as it is made, and every tick, exception and dispatch keeps it (as does every service call
 /// that the gate lets through, `laws` of brd_board): each spin lock is free, and then no processor holds it, or exactly
-/// one processor holds it; and a processor that holds one is CPU-locked, handles no interrupt and isn't stopped, and a
-/// task runs on it.
+/// one processor holds it; and a processor that holds one is CPU-locked, and its task or its handler executes, without
+/// the profile its task.
 pub fn a_spin_lock_has_one_holder()
     ensures made { (standard : Bool) (processors : ℕ) (setups : List SetupOf) (lines : List LineOf)
         (semaphores : List SemaphoreConfig) (flags : List FlagConfig) (queues : List QueueConfig)

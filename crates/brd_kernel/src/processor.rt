@@ -40,7 +40,7 @@ pub enum Executor {
     Handler,
 }
 
-/// What a task has set on its processor.
+/// What a task or a handler has set on its processor.
 #[derive(Clone, Copy, PartialEq, Eq)]
 pub struct Marks {
     /// It is CPU-locked (loc_cpu).

@@ -55,8 +55,8 @@ pub(crate) enum Round {
 /// How often a search begins anew at most (own choice).
 const MOST_ROUNDS: u32 = 10_000;
 
-/// Searches the schedules of a board within bounds, of which each event is one of these, for one that fails: by the lazy
-/// ones. It goes through so many places at most. Who watches is told through how many it has gone.
+/// Searches the schedules of a board within bounds, of which each event is one of these, for one that fails: by the
+/// lazy ones. It goes through so many places at most. Who watches is told through how many it has gone.
 pub fn find_lazily<W: Watch>(
     alloc: Global,
     board: &Board,
@@ -137,6 +137,9 @@ fn visit_all<W: Watch>(
             Tried::Strays(cpu, count) => return Ok(Round::Strays(at, cpu, count)),
             Tried::Unknown(why) => return Ok(Round::Unknown(why)),
         }
+    }
+    if spots.len() <= most {
+        return Ok(Round::Holds);
     }
     Ok(Round::Unknown(Unknown::Places))
 }

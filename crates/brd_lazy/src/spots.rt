@@ -128,7 +128,8 @@ impl Spots {
         requires { from < length self.old }
         ensures more { IsMore self.old self.new }
         ensures known { (p : PlaceOf) → slice_get self.old from ≡ Some p →
-            board.now ≡ after p.board (replicate count event) → OnOk result (IsKnown self.new (spot_of board.now margin)) }
+            board.now ≡ after p.board (replicate count event) →
+            OnOk result (IsKnown self.new (spot_of board.now margin)) }
     {
         if self.is_known(board, margin, mark)? {
             return Ok(());

@@ -30,7 +30,7 @@ use Rattle.brd_kernel.specs.declared.processor.Processor.{Processor}
 use Rattle.brd_kernel.specs.declared.processor.Executor.{Executor}
 use Rattle.brd_kernel.specs.declared.processor.Executor.TheVariants as executor
 use Rattle.brd_kernel.specs.Answer.{e_ok}
-use Rattle.brd_kernel.specs.Kernel.{KernelState, with_tasks, with_processor, processor_at, with_context_of, handles}
+use Rattle.brd_kernel.specs.Kernel.{KernelState, with_tasks, with_processor, processor_at, letting_go, with_context_of, handles}
 use Rattle.brd_kernel.specs.Waits.{can_wait, with_wait, released_in, reason_of, unlisted, broken_off, ended_in, answer_by, timed_out, all_timed_out, faulted_task, faulted_in, shown_until, with_released, given_in, all_given_in, quits_in, prioritized}
 use Rattle.brd_kernel.specs.Services.{with_all_released_in, with_satisfied_of, handed_over, released_with_second, message_of, unmarked_on, caller_on}
 use Rattle.brd_kernel.proofs.PricedLemmas.{priced, priced_in}
@@ -204,7 +204,7 @@ either-has them false one other first second = second
 faulted-has : (them : List Bool) (k : KernelState) (cpu : ℕ) (p : Option Processor) → Has them k → Has them (faulted_in k cpu p)
 faulted-has them k cpu None has = has
 faulted-has them k cpu (Some p) has =
-    either-has them (is_some p.handling) (with_processor k cpu (record p { stopped = true })) (faulted_task k cpu p p.running) has
+    either-has them (is_some p.handling) (with_processor k cpu (record (letting_go p) { stopped = true })) (faulted_task k cpu p p.running) has
     (faulted-task-has them k cpu p p.running has)
 
 context-has : (them : List Bool) (k : KernelState) (cpu : ℕ) (who : Executor) (s : State) → Has them k → Has them (with_context_of k cpu who s)

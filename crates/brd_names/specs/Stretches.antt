@@ -3,7 +3,7 @@ use Rattle.std.specs.Prelude.{ℕ, ◌+◌, ◌-◌, ◌^◌, ◌==◌, nat_lt, 
 use Rattle.std.specs.Fmt.{decimal}
 use Rattle.brd_kernel.specs.declared.processor.Standing.{Standing}
 use Rattle.brd_names.specs.declared.line.Heading.{Heading}
-use Rattle.brd_names.specs.declared.stretch.{Quiet.Quiet, Stretch.Stretch}
+use Rattle.brd_names.specs.declared.stretch.{Quiet.Quiet, Spinner.Spinner, Stretch.Stretch}
 use Rattle.brd_names.specs.declared.stretch.Quiet.TheVariants.{Idle, Stopped, NoProcessor, Spins, Tick, TimeOver}
 use Rattle.brd_names.specs.declared.stretch.Quiet.TheVariants.{NoLine, Again, Off}
 use Rattle.brd_names.specs.contracts.stretch.QuietPartialEq.TheImpl as quiets
@@ -19,7 +19,7 @@ processor_of (Spins spin) = Some spin.cpu
 processor_of _ = None
 
 abbrev pub who_of : Quiet → Option Standing
-who_of (Spins spin) = Some (Standing.Task spin.task)
+who_of (Spins spin) = Some spin.who
 who_of _ = None
 
 abbrev pub place_of : Quiet → Option ℕ
@@ -37,9 +37,19 @@ heading_of it = record {
 abbrev pub steps_text : Stretch → List ℕ
 steps_text it = count_text it.count (codes "step")
 
-abbrev pub spins_text : Stretch → ℕ → List ℕ
-spins_text it lock =
-    codes "loc_spn(" ++ signed_text lock ++ named_text (codes "), spins for lock") lock ++ codes ", " ++ steps_text it
+-- what the call begins with by which a task or a handler asks for a spin lock
+abbrev pub asking_text : Standing → List ℕ
+asking_text (Standing.Handler line) = codes "iloc_spn("
+asking_text (Standing.Task id) = codes "loc_spn("
+asking_text Standing.Idle = codes "loc_spn("
+asking_text Standing.Stopped = codes "loc_spn("
+
+abbrev pub asked_text : Spinner → List ℕ
+asked_text spin =
+    asking_text spin.who ++ signed_text spin.lock ++ named_text (codes "), spins for lock") spin.lock
+
+abbrev pub spins_text : Stretch → Spinner → List ℕ
+spins_text it spin = asked_text spin ++ codes ", " ++ steps_text it
 
 abbrev pub raises_text : Stretch → ℕ → List ℕ → List ℕ
 raises_text it line what = named_text (codes "line") line ++ what ++ count_text it.count (codes "raise")
@@ -60,7 +70,7 @@ abbrev pub stretch_text : Stretch → Quiet → List ℕ
 stretch_text it (Idle cpu) = codes "idle, " ++ steps_text it
 stretch_text it (Stopped cpu) = codes "stopped, " ++ steps_text it
 stretch_text it (NoProcessor cpu) = codes "no such processor, " ++ steps_text it
-stretch_text it (Spins spin) = spins_text it spin.lock
+stretch_text it (Spins spin) = spins_text it spin
 stretch_text it Tick = ticks_text it
 stretch_text it TimeOver = late_text it
 stretch_text it (NoLine line) = raises_text it line (unraised_text line)

@@ -15,7 +15,7 @@ pub use line::{HEAD, Heading, put_who};
 pub use names::Names;
 pub use races::put_races;
 pub use standings::{Standings, put_standing};
-pub use stretch::{Quiet, SpinningTask, Stretch};
+pub use stretch::{Quiet, Spinner, Stretch};
 pub use text::{
     printable, put, put_blanks, put_called, put_comma, put_count, put_named, put_number,
     put_signed, put_word,

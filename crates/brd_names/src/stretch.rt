@@ -7,16 +7,16 @@ ghost use Rattle.brd_names.specs.Stretches as quiets;
 use crate::line::Heading;
 use crate::text::{put, put_count, put_named, put_number, put_signed};
 use brd_base::NoMemory;
-use brd_board::{Standing, TaskId};
+use brd_board::Standing;
 use std::alloc::Global;
 
-/// A task that asks for a spin lock that is held, so that the call comes again.
+/// Who asks for a spin lock that is held, so that the call comes again.
 #[derive(Clone, Copy, PartialEq, Eq)]
-pub struct SpinningTask {
-    /// Its processor.
+pub struct Spinner {
+    /// The processor.
     pub cpu: u8,
-    /// The task.
-    pub task: TaskId,
+    /// The task or the handler.
+    pub who: Standing,
     /// Where it asks.
     pub place: u32,
     /// Which lock.
@@ -33,7 +33,7 @@ pub enum Quiet {
     /// Steps of a processor that the board doesn't have.
     NoProcessor(u8),
     /// Calls that come again.
-    Spins(SpinningTask),
+    Spins(Spinner),
     /// Ticks that release nobody, and at which no time handler is due.
     Tick,
     /// Ticks after the last one.
@@ -76,7 +76,7 @@ impl Quiet {
         ensures { result ≡ quiets.who_of self }
     {
         match self {
-            Quiet::Spins(spin) => Some(Standing::Task(spin.task)),
+            Quiet::Spins(spin) => Some(spin.who),
             _ => None,
         }
     }
@@ -128,7 +128,7 @@ impl Stretch {
             Quiet::Idle(_) => self.put_steps(alloc, out, "idle, "),
             Quiet::Stopped(_) => self.put_steps(alloc, out, "stopped, "),
             Quiet::NoProcessor(_) => self.put_steps(alloc, out, "no such processor, "),
-            Quiet::Spins(spin) => self.put_spins(alloc, out, spin.lock),
+            Quiet::Spins(spin) => self.put_spins(alloc, out, spin),
             Quiet::Tick => self.put_ticks(alloc, out),
             Quiet::TimeOver => self.put_late(alloc, out),
             Quiet::NoLine(line) => self.put_raises(alloc, out, line, unraised(line)),
@@ -150,12 +150,10 @@ impl Stretch {
     }
 
     /// Puts at the end the call that comes again, the lock, and how many steps.
-    fn put_spins(&self, alloc: Global, out: &mut Vec<u8>, lock: u32) -> Result<(), NoMemory>
-        ensures { OnOk result (out.new.items ≡ out.old.items ++ quiets.spins_text self.now lock) }
+    fn put_spins(&self, alloc: Global, out: &mut Vec<u8>, spin: Spinner) -> Result<(), NoMemory>
+        ensures { OnOk result (out.new.items ≡ out.old.items ++ quiets.spins_text self.now spin) }
     {
-        put(out, "loc_spn(")?;
-        put_signed(alloc, out, lock)?;
-        put_named(alloc, out, "), spins for lock", u64::from(lock))?;
+        put_asked(alloc, out, spin)?;
         put(out, ", ")?;
         put_count(alloc, out, self.count, "step")
     }
@@ -195,6 +193,25 @@ impl Stretch {
         put_named(alloc, out, "ticks", first)?;
         put(out, " to ")?;
         put_number(alloc, out, self.tick)
+    }
+}
+
+/// Puts at the end the call that comes again, and the lock.
+fn put_asked(alloc: Global, out: &mut Vec<u8>, spin: Spinner) -> Result<(), NoMemory>
+    ensures { OnOk result (out.new.items ≡ out.old.items ++ quiets.asked_text spin) }
+{
+    put(out, asking(spin.who))?;
+    put_signed(alloc, out, spin.lock)?;
+    put_named(alloc, out, "), spins for lock", u64::from(spin.lock))
+}
+
+/// What the call begins with by which a task or a handler asks for a spin lock.
+fn asking(who: Standing) -> &'static str
+    ensures { result.now ≡ quiets.asking_text who }
+{
+    match who {
+        Standing::Handler(_) => "iloc_spn(",
+        Standing::Task(_) | Standing::Idle | Standing::Stopped => "loc_spn(",
     }
 }
 

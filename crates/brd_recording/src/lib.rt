@@ -1,7 +1,8 @@
-//! What is kept in the course of a run: a timeline with its slices, marks and spin locks.
+//! What is kept in the course of a run: a timeline with its slices, marks, spin locks and mutexes.
 #![tactic(auto)]
 
 mod locks;
+mod mutexes;
 mod recording;
 mod turns;
 

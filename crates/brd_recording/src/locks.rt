@@ -1,10 +1,12 @@
-//! Who holds the spin locks of a board in the course of a run, and who asks for them again and again.
+//! Who holds the spin locks of a board in the course of a run, and who asks for them again and again; and the mutexes.
 
+use crate::mutexes::Mutexes;
 use crate::recording::Known;
 use brd_base::NoMemory;
-use brd_board::{Board, Spin, Standing};
-use brd_names::SpinningTask;
-use brd_timeline::{Hold, Spinning};
+use brd_board::{Board, Spin};
+use brd_happening::Happening;
+use brd_names::Spinner;
+use brd_timeline::{Hold, Owning, Spinning};
 use std::alloc::Global;
 
 /// Who holds a spin lock, and from which position on.
@@ -25,18 +27,18 @@ struct Lock {
     holder: Option<Holder>,
 }
 
-/// A task that asks for a spin lock again and again, and from which position on.
+/// A task or a handler that asks for a spin lock again and again, and from which position on.
 #[derive(Clone, Copy)]
 struct Asking {
     /// Who, and for which lock.
-    task: SpinningTask,
+    spinner: Spinner,
     /// The place of its processor in the list of processors.
     lane: usize,
     /// From where.
     from: u64,
 }
 
-/// What is recorded of spin locks.
+/// What is recorded of spin locks and mutexes.
 #[derive(Drop)]
 pub struct Locks {
     /// The locks of the board, by ascending number.
@@ -47,9 +49,11 @@ pub struct Locks {
     holds: Vec<Hold>,
     /// Who asked before.
     spins: Vec<Spinning>,
+    /// Who has and had the mutexes.
+    mutexes: Mutexes,
 }
 
-/// What was recorded of spin locks.
+/// What was recorded of spin locks and mutexes.
 #[derive(Drop)]
 pub struct LocksSeen {
     /// The numbers of the locks.
@@ -58,10 +62,14 @@ pub struct LocksSeen {
     pub holds: Vec<Hold>,
     /// Who asked for them.
     pub spins: Vec<Spinning>,
+    /// The numbers of the mutexes that a task had.
+    pub mutexes: Vec<u8>,
+    /// Who had them.
+    pub owned: Vec<Owning>,
 }
 
 impl Locks {
-    /// The spin locks of a board, from a position on.
+    /// The spin locks and mutexes of a board, from a position on.
     pub fn new(alloc: Global, board: &Board, from: u64) -> Result<Locks, NoMemory> {
         let mut locks = Vec::new(alloc);
         for id in 1..256u16 {
@@ -78,11 +86,18 @@ impl Locks {
             asking: Vec::new(alloc),
             holds: Vec::new(alloc),
             spins: Vec::new(alloc),
+            mutexes: Mutexes::new(alloc, board, from)?,
         })
     }
 
-    /// Who holds the locks of a board from a position on: one that is off has no holders.
-    pub fn see(&mut self, board: &Board, at: u64) -> Result<(), NoMemory> {
+    /// Who holds the locks and has the mutexes of a board from a position on, after an event; nobody if it is off.
+    pub fn see(&mut self, board: &Board, told: &Happening, at: u64) -> Result<(), NoMemory> {
+        self.mutexes.see(board, told, at)?;
+        self.see_holders(board, at)
+    }
+
+    /// Who holds the locks of a board from a position on.
+    fn see_holders(&mut self, board: &Board, at: u64) -> Result<(), NoMemory> {
         for place in 0..self.locks.len() {
             let Some(lock) = self.locks.get(place).copied() else {
                 return Ok(());
@@ -125,23 +140,23 @@ impl Locks {
         Ok(())
     }
 
-    /// A task has asked for a lock that is held, so that it asks again from a position on, on the processor of a lane.
-    pub fn ask(&mut self, task: SpinningTask, lane: usize, at: u64) -> Result<(), NoMemory> {
+    /// Somebody has asked for a lock that is held, and asks again from a position on, on the processor of a lane.
+    pub fn ask(&mut self, spinner: Spinner, lane: usize, at: u64) -> Result<(), NoMemory> {
         for asking in self.asking.iter() {
-            if asking.task == task {
+            if asking.spinner == spinner {
                 return Ok(());
             }
         }
         self.asking.push(Asking {
-            task,
+            spinner,
             lane,
             from: at,
         })?;
         Ok(())
     }
 
-    /// Ends what a position ends: a task asks no more where its processor has made another step, or does something
-    /// else, or the task is elsewhere.
+    /// Ends what a position ends: a task or a handler asks no more where its processor has made another step, or it
+    /// does something else, or is elsewhere.
     pub fn answer(
         &mut self,
         known: Known,
@@ -161,23 +176,23 @@ impl Locks {
         Ok(())
     }
 
-    /// The place of a task that asks no more.
+    /// The place of one that asks no more.
     fn answered(&self, known: Known, board: &Board, cpu: Option<u8>) -> Option<usize> {
         for place in 0..self.asking.len() {
-            let task = self.asking[place].task;
-            if known.is_off || cpu == Some(task.cpu) || !stands(known, board, task) {
+            let spinner = self.asking[place].spinner;
+            if known.is_off || cpu == Some(spinner.cpu) || !stands(known, board, spinner) {
                 return Some(place);
             }
         }
         None
     }
 
-    /// Ends that a task asks.
+    /// Ends that somebody asks.
     fn end_asking(&mut self, asking: Asking, to: u64) -> Result<(), NoMemory> {
         if asking.from < to {
             self.spins.push(Spinning {
                 lane: asking.lane,
-                lock: asking.task.lock,
+                lock: asking.spinner.lock,
                 from: asking.from,
                 to,
             })?;
@@ -200,7 +215,9 @@ impl Locks {
             asking: _,
             holds,
             spins,
+            mutexes,
         } = self;
+        let (mutexes, owned) = mutexes.end(alloc, to)?;
         let mut ids = Vec::new(alloc);
         for lock in locks.iter() {
             ids.push(lock.id)?;
@@ -209,17 +226,19 @@ impl Locks {
             locks: ids,
             holds,
             spins,
+            mutexes,
+            owned,
         })
     }
 }
 
-/// Whether a task still stands where it has asked for a lock.
-fn stands(known: Known, board: &Board, task: SpinningTask) -> bool {
-    if known.standings.at(task.cpu) != Some(Standing::Task(task.task)) {
+/// Whether a task or a handler still stands where it has asked for a lock.
+fn stands(known: Known, board: &Board, spinner: Spinner) -> bool {
+    if known.standings.at(spinner.cpu) != Some(spinner.who) {
         return false;
     }
-    match board.registers(task.cpu) {
-        Some(context) => context.pc() == task.place,
+    match board.registers(spinner.cpu) {
+        Some(context) => context.pc() == spinner.place,
         None => false,
     }
 }

@@ -57,7 +57,7 @@ use brd_base::NoMemory;
 use brd_board::{Board, Standing, TaskState, WaitReason};
 use brd_happening::Happening;
 use brd_journal::Journal;
-use brd_names::{Quiet, SpinningTask, Standings, put_called, put_named, put_wait};
+use brd_names::{Quiet, Spinner, Standings, put_called, put_named, put_wait};
 use brd_seen::{TaskSeen, quiet_of};
 use brd_timeline::{Group, Kind, Lane, Mark, MarkKind, Slice, Timeline};
 use std::alloc::Global;
@@ -101,12 +101,12 @@ pub struct Recording {
     processors: Vec<u8>,
     /// What goes on in each lane.
     current: Vec<Open>,
-    /// The spin locks.
+    /// The spin locks and mutexes.
     locks: Locks,
 }
 
 impl Recording {
-    /// The timeline of a run, from a position on, with these spin locks.
+    /// The timeline of a run, from a position on, with these spin locks and mutexes.
     pub fn new(alloc: Global, known: Known, locks: Locks, from: u64) -> Result<Recording, NoMemory>
         ensures { IfOk result (λ it. Begins known.entry.is_off known.entry.standings.now.of known.entry.tasks.now from
             (lanes_of it)) }
@@ -299,7 +299,7 @@ impl Recording {
         Ok(())
     }
 
-    /// How spin locks stand on a board from a position on, after an event.
+    /// How spin locks and mutexes stand on a board from a position on, after an event.
     pub fn see_locks(
         &mut self,
         known: Known,
@@ -309,22 +309,22 @@ impl Recording {
     ) -> Result<(), NoMemory>
         ensures { lanes_of self.new ≡ lanes_of self.old }
     {
-        self.locks.see(board, at)?;
+        self.locks.see(board, told, at)?;
         match quiet_of(told) {
-            Some(Quiet::Spins(task)) => {
+            Some(Quiet::Spins(spinner)) => {
                 self.locks.answer(known, board, None, at)?;
-                self.ask(task, at)
+                self.ask(spinner, at)
             }
             _ => self.locks.answer(known, board, told.cpu, at),
         }
     }
 
-    /// A task has asked for a spin lock that is held, so that it asks again from a position on.
-    fn ask(&mut self, task: SpinningTask, at: u64) -> Result<(), NoMemory>
+    /// Somebody has asked for a spin lock that is held, and asks again from a position on.
+    fn ask(&mut self, spinner: Spinner, at: u64) -> Result<(), NoMemory>
         ensures { lanes_of self.new ≡ lanes_of self.old }
     {
-        match self.lane_of(task.cpu) {
-            Some(lane) => self.locks.ask(task, lane, at),
+        match self.lane_of(spinner.cpu) {
+            Some(lane) => self.locks.ask(spinner, lane, at),
             None => Ok(()),
         }
     }
@@ -345,11 +345,15 @@ impl Recording {
             locks,
             holds,
             spins,
+            mutexes,
+            owned,
         } = locks.end(alloc, end)?;
         timeline.turns = turns_of(alloc, journal, processors.as_slice(), timeline.from, end)?;
         timeline.locks = locks;
         timeline.holds = holds;
         timeline.spins = spins;
+        timeline.mutexes = mutexes;
+        timeline.owned = owned;
         timeline.to = to;
         Ok(timeline)
     }
@@ -390,6 +394,8 @@ fn empty(alloc: Global, from: u64) -> Timeline
         locks: Vec::new(alloc),
         holds: Vec::new(alloc),
         spins: Vec::new(alloc),
+        mutexes: Vec::new(alloc),
+        owned: Vec::new(alloc),
         turns: Vec::new(alloc),
         ticks: Vec::new(alloc),
         first_tick: 0,

@@ -52,9 +52,9 @@ abbrev pub IsFewest : Plan → BoardState → Bounds → Option (List Event) →
 IsFewest plan b bounds (Some events) = NoneBelow plan b bounds.preemptions
 IsFewest plan b bounds None = Unit {0}
 
--- Why a search has come to no answer is so: it was stopped only by who may stop it, and where it is said that none
--- fails with up to so many preemptions, which are fewer than the plan's, none of the shard does within the other bounds.
--- By lazy schedules alone is it not known.
+-- Why a search has come to no answer is so: it was stopped only by who may stop it; and if it is said that none fails
+-- with up to so many preemptions, these are fewer than the plan's, and none of the shard fails within the other bounds.
+-- That it isn't known by lazy schedules, says nothing.
 abbrev pub StopsSo : Plan → BoardState → Bool → NoAnswer → Type 0
 StopsSo plan b may no_answer.NoMemory = Unit {0}
 StopsSo plan b may no_answer.Stopped = may ≡ true

@@ -121,7 +121,8 @@ fn put_gone(alloc: Global, places: u64, ends: u64, out: &mut Vec<u8>) -> Result<
 
 /// What is said where no place within bounds is an end.
 const NO_LAZY_END: &str =
-    "warning: none is an end, so nothing that should be so at the end was looked at; more --events or --ticks may help\n";
+    "warning: none is an end, so nothing that should be so at the end was looked at; more --events or --ticks may \
+help\n";
 
 /// Through how many places a search went for which events and preemptions have no bound; how many of them are ends; and
 /// from how many of them no schedule comes to an end.

@@ -22,16 +22,16 @@ quiet_by why.Idle cpu = Idle cpu
 quiet_by why.TimeOver cpu = TimeOver
 
 abbrev pub spin_by : Happening → CallMade → Answer → Option Standing → Option Quiet
-spin_by it call Answer.Again (Some (Standing.Task task)) =
+spin_by it call Answer.Again (Some who) =
     Some (Spins (record {
       cpu = unwrap_or it.cpu 0;
-      task = task;
+      who = who;
       place = unwrap_or it.place 0;
       lock = slice_index_or call.asked.arguments 0 0;
     }))
 spin_by it call answer who = None
 
--- a task's call that comes again, since the spin lock is held that it asks for
+-- a call that comes again, since the spin lock is held that it asks for
 abbrev pub spin_of : Happening → CallMade → Option Quiet
 spin_of it call = spin_by it call call.answer it.who
 

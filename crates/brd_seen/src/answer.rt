@@ -48,7 +48,6 @@ fn context_advice(number: u32) -> Option<&'static str> {
         2
         | 4..=6
         | 8
-        | 9
         | 12
         | 13
         | 19
@@ -59,8 +58,6 @@ fn context_advice(number: u32) -> Option<&'static str> {
         | 31
         | 38
         | 40
-        | 60
-        | 61
         | 64
         | 65
         | 70..=76
@@ -76,23 +73,41 @@ fn context_advice(number: u32) -> Option<&'static str> {
         | 94
         | 99
         | 100 => { "not from a handler, nor with the CPU locked" }
-        15 => "not from a handler, nor with a spin lock held",
-        14 | 41 | 62 => "not from a handler",
-        48 => "from a handler alone: a task calls act_tsk",
-        49 => "from a handler alone: a task calls wup_tsk",
-        50 => "from a handler alone: a task calls rel_wai",
-        51 => "from a handler alone: a task calls sig_sem",
-        52 => "from a handler alone: a task calls set_flg",
-        53 => "from a handler alone: a task calls psnd_dtq",
-        54 => "from a handler alone: a task calls fsnd_dtq",
-        55 => "from a handler alone: a task calls rot_rdq",
-        56 => "from a handler alone: a task calls get_tid",
-        57 => "from a handler alone: a task calls mact_tsk",
+        9 => {
+            "not from a handler, which calls iget_pid with PROFILE(STANDARD), nor with the CPU locked"
+        }
+        60 => {
+            "not from a handler, which calls iloc_spn with PROFILE(STANDARD), nor with the CPU locked"
+        }
+        61 => {
+            "not from a handler, which calls itry_spn with PROFILE(STANDARD), nor with the CPU locked"
+        }
+        15 => {
+            "not from a handler, which calls iunl_cpu with PROFILE(STANDARD), nor with a spin lock held"
+        }
+        14 => "not from a handler, which calls iloc_cpu with PROFILE(STANDARD)",
+        62 => "not from a handler, which calls iunl_spn with PROFILE(STANDARD)",
+        41 => "not from a handler",
+        48 => "from a handler alone, not with the CPU locked: a task calls act_tsk",
+        49 => "from a handler alone, not with the CPU locked: a task calls wup_tsk",
+        50 => "from a handler alone, not with the CPU locked: a task calls rel_wai",
+        51 => "from a handler alone, not with the CPU locked: a task calls sig_sem",
+        52 => "from a handler alone, not with the CPU locked: a task calls set_flg",
+        53 => "from a handler alone, not with the CPU locked: a task calls psnd_dtq",
+        54 => "from a handler alone, not with the CPU locked: a task calls fsnd_dtq",
+        55 => "from a handler alone, not with the CPU locked: a task calls rot_rdq",
+        56 => "from a handler alone, not with the CPU locked: a task calls get_tid",
+        57 => "from a handler alone, not with the CPU locked: a task calls mact_tsk",
         58 => "from a handler alone: a task ends by ext_tsk",
-        87 => "from a handler alone: a task calls snd_mbx",
-        96 => "from a handler alone: a task calls sta_alm",
-        98 => "from a handler alone: a task calls stp_alm",
-        112 => "from a handler alone: a task calls get_pid",
+        87 => "from a handler alone, not with the CPU locked: a task calls snd_mbx",
+        96 => "from a handler alone, not with the CPU locked: a task calls sta_alm",
+        98 => "from a handler alone, not with the CPU locked: a task calls stp_alm",
+        101 => "from a handler alone: a task calls loc_cpu",
+        102 => "from a handler alone, not with a spin lock held: a task calls unl_cpu",
+        103 => "from a handler alone, not with the CPU locked: a task calls loc_spn",
+        104 => "from a handler alone, not with the CPU locked: a task calls try_spn",
+        105 => "from a handler alone: a task calls unl_spn",
+        112 => "from a handler alone, not with the CPU locked: a task calls get_pid",
         _ => return None,
     };
     Some(advice)

@@ -3,9 +3,8 @@
 ghost use Rattle.std.specs.Prelude.{◌≡◌};
 ghost use Rattle.brd_seen.specs.Quiets as quiets;
 
-use brd_board::Standing;
 use brd_happening::{Answer, CallMade, Happening, Release, Rung, What, Why};
-use brd_names::{Quiet, SpinningTask};
+use brd_names::{Quiet, Spinner};
 
 /// The events that a happening is one of, if it changes nothing.
 pub fn quiet_of(it: &Happening) -> Option<Quiet>
@@ -44,16 +43,16 @@ fn tick_by(released: &[Release], rung: &[Rung]) -> Option<Quiet>
     None
 }
 
-/// The calls that come again, if a task's call is one of them.
+/// The calls that come again, if a call is one of them.
 fn spin_of(it: &Happening, call: &CallMade) -> Option<Quiet>
     ensures { result ≡ quiets.spin_of it.now call.now }
 {
-    let (Answer::Again, Some(Standing::Task(task))) = (call.answer, it.who) else {
+    let (Answer::Again, Some(who)) = (call.answer, it.who) else {
         return None;
     };
-    Some(Quiet::Spins(SpinningTask {
+    Some(Quiet::Spins(Spinner {
         cpu: it.cpu.unwrap_or(0),
-        task,
+        who,
         place: it.place.unwrap_or(0),
         lock: call.asked.arguments[0],
     }))

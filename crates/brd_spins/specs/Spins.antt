@@ -1,5 +1,5 @@
 -- A processor that spins: left alone, it does the same few instructions for ever, and they change nothing; or its task
--- asks again and again for a spin lock that is held.
+-- or handler asks again and again for a spin lock that is held.
 use Rattle.std.specs.Prelude.{◌≡◌, ◌≢◌, ◌≤◌, ◌<◌, ◌+◌, ℕ, Bool, true, false, if◌then◌else◌}
 use Rattle.std.specs.Prelude.{List, [], ◌∷◌, length, replicate, slice_index, slice_get, Contains}
 use Rattle.std.specs.Prelude.{Option, None, Some}
@@ -57,7 +57,7 @@ pub record IsLoop (b : BoardState) (cpu : ℕ) (states : List State) : Type 0 wh
   pub again : registers_of (alone b cpu (length states)) cpu ≡ registers_of b cpu
   pub least : AreOther b cpu (length states)
 
--- A processor's task is to make this call again, with these registers: it asks for a spin lock that is held.
+-- A processor's task or handler is to make this call again, with these registers: it asks for a spin lock that is held.
 pub record IsAsking (b : BoardState) (cpu lock : ℕ) (states : List State) : Type 0 where
   pub state : State
   pub only : states ≡ state ∷ []

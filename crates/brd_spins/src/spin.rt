@@ -13,7 +13,7 @@ use brd_exec::Context;
 pub enum SpinKind {
     /// It executes so many instructions, which change nothing, again and again.
     Loop(u32),
-    /// Its task asks for this spin lock, which is held, again and again.
+    /// Its task or handler asks for this spin lock, which is held, again and again.
     Lock(u32),
 }
 

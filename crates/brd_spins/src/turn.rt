@@ -16,7 +16,7 @@ use std::alloc::Global;
 pub(crate) enum Turn {
     /// It executes an instruction that stores nothing.
     Reads,
-    /// Its task asks for this spin lock, which is held, and is to ask again.
+    /// Its task or handler asks for this spin lock, which is held, and is to ask again.
     Asks(u32),
     /// Anything else.
     Other,

@@ -1,6 +1,6 @@
--- The address that the last exception on a thread's processor was about, if it was an address error or a bus error. The
--- board keeps none: it is known of a thread that stands at the exception's instruction, as a task does that it has ended,
--- by the registers that the instruction found. (Own choice: MIPS32 has none of a bus error.)
+-- The address that the last exception on a thread's processor was about, if it was an address error or a bus error.
+-- The board keeps none: it is known of a thread that stands at the exception's instruction, as a task does that it has
+-- ended, by the registers that the instruction found. (Own choice: MIPS32 has none of a bus error.)
 use Rattle.std.specs.Prelude.{ℕ, ◌+◌, ◌%◌, ◌^◌, ◌==◌, if◌then◌else◌, Bool, true, false, Option, Some, None}
 use Rattle.brd_word.specs.declared.order.Order.{Order}
 use Rattle.brd_isa.specs.declared.instruction.Insn.{Insn}

@@ -111,7 +111,7 @@ plain_table =
     ∷ service 55 (codes "irot_rdq") 1 place.Handler (λ a. call.IrotRdq (a0 a))
     ∷ service 56 (codes "iget_tid") 0 place.Handler (λ a. call.GetTid)
     ∷ service 57 (codes "imact_tsk") 2 place.Handler (λ a. call.ImactTsk (a0 a) (a1 a))
-    ∷ service 58 (codes "ret_int") 0 place.Handler (λ a. call.RetInt)
+    ∷ service 58 (codes "ret_int") 0 place.LockedHandler (λ a. call.RetInt)
     ∷ service 60 (codes "loc_spn") 1 place.Task (λ a. call.LocSpn (a0 a))
     ∷ service 61 (codes "try_spn") 1 place.Task (λ a. call.TrySpn (a0 a))
     ∷ service 62 (codes "unl_spn") 1 place.LockedTask (λ a. call.UnlSpn (a0 a))
@@ -157,6 +157,11 @@ profile_table =
     ∷ service 98 (codes "istp_alm") 1 place.Handler (λ a. call.StpAlm (a0 a))
     ∷ service 99 (codes "ref_cyc") 2 place.Task (λ a. call.RefCyc (a0 a) (a1 a))
     ∷ service 100 (codes "ref_alm") 2 place.Task (λ a. call.RefAlm (a0 a) (a1 a))
+    ∷ service 101 (codes "iloc_cpu") 0 place.LockedHandler (λ a. call.LocCpu)
+    ∷ service 102 (codes "iunl_cpu") 0 place.NotHoldingHandler (λ a. call.UnlCpu)
+    ∷ service 103 (codes "iloc_spn") 1 place.Handler (λ a. call.LocSpn (a0 a))
+    ∷ service 104 (codes "itry_spn") 1 place.Handler (λ a. call.TrySpn (a0 a))
+    ∷ service 105 (codes "iunl_spn") 1 place.LockedHandler (λ a. call.UnlSpn (a0 a))
     ∷ service 112 (codes "iget_pid") 0 place.Handler (λ a. call.GetPid)
     ∷ []
 
@@ -181,14 +186,18 @@ may_call (Task id locked disabled holding) place.NotHolding named = not holding
 may_call (Task id locked disabled holding) place.Waiting named = not locked && not disabled
 may_call (Task id locked disabled holding) place.OnTask named = not locked && not (disabled && is_oneself id named)
 may_call (Task id locked disabled holding) place.Handler named = false
+may_call (Task id locked disabled holding) place.LockedHandler named = false
+may_call (Task id locked disabled holding) place.NotHoldingHandler named = false
 may_call (Task id locked disabled holding) place.Anywhere named = true
-may_call Handler place.Task named = false
-may_call Handler place.LockedTask named = false
-may_call Handler place.NotHolding named = false
-may_call Handler place.Waiting named = false
-may_call Handler place.OnTask named = false
-may_call Handler place.Handler named = true
-may_call Handler place.Anywhere named = true
+may_call (Handler locked holding) place.Task named = false
+may_call (Handler locked holding) place.LockedTask named = false
+may_call (Handler locked holding) place.NotHolding named = false
+may_call (Handler locked holding) place.Waiting named = false
+may_call (Handler locked holding) place.OnTask named = false
+may_call (Handler locked holding) place.Handler named = not locked
+may_call (Handler locked holding) place.LockedHandler named = true
+may_call (Handler locked holding) place.NotHoldingHandler named = not holding
+may_call (Handler locked holding) place.Anywhere named = true
 
 -- the row of a number in a table
 abbrev pub row_in : List Service → ℕ → Option Service
@@ -248,11 +257,11 @@ are_below number (s ∷ services) = nat_lt s.number number && are_below number s
 
 abbrev pub agent_by : ℕ → Processor → Option ℕ → Agent
 agent_by id p None = Task id p.locked p.disabled (is_some p.spin)
-agent_by id p (Some line) = Handler
+agent_by id p (Some line) = Handler p.locked (is_some p.spin)
 
 -- who makes a call from a processor (where the board has none of that number no call comes, and any agent will do)
 abbrev pub agent_in : ℕ → Option Processor → Agent
-agent_in id None = Handler
+agent_in id None = Handler false false
 agent_in id (Some p) = agent_by id p p.handling
 
 abbrev pub caller_of : KernelState → ℕ → Caller

@@ -51,7 +51,12 @@ pub enum Agent {
         holding: bool,
     },
     /// An interrupt handler.
-    Handler,
+    Handler {
+        /// Whether its processor is CPU-locked.
+        locked: bool,
+        /// Whether its processor holds a spin lock.
+        holding: bool,
+    },
 }
 
 /// The call that a context asks for: its number is in $v0, its arguments are in $a0 to $a3. An unknown number is
@@ -179,7 +184,7 @@ fn plain_service(number: u32, arguments: [u32; 4]) -> Option<Service>
         55 => (b"irot_rdq", 1, Place::Handler, Call::IrotRdq(a0)),
         56 => (b"iget_tid", 0, Place::Handler, Call::GetTid),
         57 => (b"imact_tsk", 2, Place::Handler, Call::ImactTsk(a0, a1)),
-        58 => (b"ret_int", 0, Place::Handler, Call::RetInt),
+        58 => (b"ret_int", 0, Place::LockedHandler, Call::RetInt),
         60 => (b"loc_spn", 1, Place::Task, Call::LocSpn(a0)),
         61 => (b"try_spn", 1, Place::Task, Call::TrySpn(a0)),
         62 => (b"unl_spn", 1, Place::LockedTask, Call::UnlSpn(a0)),
@@ -233,6 +238,11 @@ fn profile_service(number: u32, arguments: [u32; 4]) -> Option<Service>
         98 => (b"istp_alm", 1, Place::Handler, Call::StpAlm(a0)),
         99 => (b"ref_cyc", 2, Place::Task, Call::RefCyc(a0, a1)),
         100 => (b"ref_alm", 2, Place::Task, Call::RefAlm(a0, a1)),
+        101 => (b"iloc_cpu", 0, Place::LockedHandler, Call::LocCpu),
+        102 => (b"iunl_cpu", 0, Place::NotHoldingHandler, Call::UnlCpu),
+        103 => (b"iloc_spn", 1, Place::Handler, Call::LocSpn(a0)),
+        104 => (b"itry_spn", 1, Place::Handler, Call::TrySpn(a0)),
+        105 => (b"iunl_spn", 1, Place::LockedHandler, Call::UnlSpn(a0)),
         112 => (b"iget_pid", 0, Place::Handler, Call::GetPid),
         _ => return None,
     };
@@ -246,7 +256,13 @@ fn may_call(agent: Agent, place: Place, named: u32) -> bool
     ensures { result ≡ may_call agent place named }
 {
     match agent {
-        Agent::Handler => place == Place::Handler || place == Place::Anywhere,
+        Agent::Handler { locked, holding } => match place {
+            Place::Handler => !locked,
+            Place::LockedHandler | Place::Anywhere => true,
+            Place::NotHoldingHandler => !holding,
+            Place::Task | Place::LockedTask | Place::NotHolding | Place::Waiting | Place::OnTask =>
+                false,
+        },
         Agent::Task {
             id,
             locked,
@@ -258,7 +274,7 @@ fn may_call(agent: Agent, place: Place, named: u32) -> bool
             Place::NotHolding => !holding,
             Place::Waiting => !locked && !disabled,
             Place::OnTask => !locked && !(disabled && is_oneself(id, named)),
-            Place::Handler => false,
+            Place::Handler | Place::LockedHandler | Place::NotHoldingHandler => false,
         },
     }
 }

@@ -15,8 +15,12 @@ pub enum Place {
     Waiting,
     /// As `Task`, but with dispatching disabled not of oneself.
     OnTask,
-    /// From a handler.
+    /// From a handler that isn't CPU-locked.
     Handler,
+    /// From a handler, also a CPU-locked one.
+    LockedHandler,
+    /// As `LockedHandler`, but not while the handler's processor holds a spin lock.
+    NotHoldingHandler,
     /// From every task and every handler.
     Anywhere,
 }

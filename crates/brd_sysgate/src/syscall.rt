@@ -51,10 +51,16 @@ fn agent(kernel: &Kernel, cpu: u8) -> Agent
     ensures { result ≡ agent_in (caller_on kernel.now cpu) (processor_at kernel.now cpu) }
 {
     let Some(processor) = kernel.processor(cpu) else {
-        return Agent::Handler;
+        return Agent::Handler {
+            locked: false,
+            holding: false,
+        };
     };
     if processor.handling.is_some() {
-        return Agent::Handler;
+        return Agent::Handler {
+            locked: processor.locked,
+            holding: processor.spin.is_some(),
+        };
     }
     Agent::Task {
         id: kernel.caller(cpu),

@@ -176,6 +176,14 @@ locks_there t some =
     ∙ ap (λ (none : Bool). behind (if none then []
     else events.ProcessName events.locks (codes "spin locks") ∷ events.locks_of t ++ events.holds_of t ++ events.spins_of t)) (sym some)
 
+pub mutexes_there : (t : Timeline) → (length t.mutexes.items == 0) ≡ false
+    → (behind (events.ProcessName events.mutexes (codes "mutexes") ∷ []) ++ behind (events.mutexes_of t)) ++ behind (events.owned_of t)
+    ≡ behind (events.mutex_events t)
+mutexes_there t some =
+    behind-three (events.ProcessName events.mutexes (codes "mutexes") ∷ []) (events.mutexes_of t) (events.owned_of t)
+    ∙ ap (λ (none : Bool). behind (if none then []
+    else events.ProcessName events.mutexes (codes "mutexes") ∷ events.mutexes_of t ++ events.owned_of t)) (sym some)
+
 pub turns_there : (t : Timeline) → (length t.turns.items == 0) ≡ false
     → (behind (events.ProcessName events.turns (codes "turns") ∷ [])
     ++ behind (events.ThreadName (events.only_track events.turns) (codes "turn") ∷ [])) ++ behind (events.turns_of t)

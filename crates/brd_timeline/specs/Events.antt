@@ -12,6 +12,7 @@ use Rattle.brd_timeline.specs.declared.timeline.Slice.{Slice}
 use Rattle.brd_timeline.specs.declared.timeline.Mark.{Mark}
 use Rattle.brd_timeline.specs.declared.timeline.Hold.{Hold}
 use Rattle.brd_timeline.specs.declared.timeline.Spinning.{Spinning}
+use Rattle.brd_timeline.specs.declared.timeline.Owning.{Owning}
 use Rattle.brd_timeline.specs.declared.timeline.Turn.{Turn}
 use Rattle.brd_timeline.specs.declared.timeline.Timeline.{Timeline}
 use Rattle.brd_timeline.specs.declared.trace_events.Track.{Track}
@@ -65,7 +66,7 @@ event_text (Instant track at category name) = instant_text track at category ++ 
 
 -- ---- the events of a timeline
 
--- the processes: that of a group of lanes, and those of the ticks, the spin locks and the turns
+-- the processes: that of a group of lanes, and those of the ticks, the spin locks, the turns and the mutexes
 abbrev pub process_of : Group → ℕ
 process_of group.Processor = 1
 process_of group.Task = 2
@@ -78,6 +79,9 @@ locks = 4
 
 abbrev pub turns : ℕ
 turns = 5
+
+abbrev pub mutexes : ℕ
+mutexes = 6
 
 -- the thread of a place from 0 on: they count from 1 on
 abbrev pub thread_of : ℕ → ℕ
@@ -92,6 +96,9 @@ only_track process = record { process = process; thread = 1 }
 
 abbrev pub lock_track : ℕ → Track
 lock_track place = record { process = locks; thread = thread_of place }
+
+abbrev pub mutex_track : ℕ → Track
+mutex_track place = record { process = mutexes; thread = thread_of place }
 
 -- an event of a lane, where there is one
 abbrev pub in_lane : (Lane → TraceEvent) → Option Lane → List TraceEvent
@@ -146,6 +153,14 @@ spin_events lanes it =
     in_lane (λ lane. Complete (track_of lane it.lane) it.from it.to (codes "spins") (spin_name it))
     (slice_get lanes it.lane)
 
+-- the thread of a mutex, and who has it
+abbrev pub mutex_event : ℕ × ℕ → TraceEvent
+mutex_event (place, mutex) = ThreadName (mutex_track place) (numbered (codes "mutex ") mutex)
+
+abbrev pub owning_event : Owning → TraceEvent
+owning_event it =
+  Complete (mutex_track it.mutex) it.from it.to (codes "held") (numbered (codes "held by task ") it.task)
+
 abbrev pub turn_event : Turn → TraceEvent
 turn_event turn = Complete (only_track turns) turn.from turn.to (codes "turn") (numbered (codes "cpu ") turn.cpu)
 
@@ -162,7 +177,8 @@ marks_of timeline = flat_map (mark_events timeline.lanes.items) timeline.marks.i
 abbrev pub ticks_of : Timeline → List TraceEvent
 ticks_of timeline = map (tick_event timeline.first_tick) (enumerate_from 0 timeline.ticks.items)
 
--- those of the spin locks, of who holds them and of who asks for them, and of the turns
+-- those of the spin locks, of who holds them and of who asks for them, of the mutexes and of who has them, and of the
+-- turns
 abbrev pub locks_of : Timeline → List TraceEvent
 locks_of timeline = map lock_event (enumerate_from 0 timeline.locks.items)
 
@@ -172,14 +188,25 @@ holds_of timeline = map hold_event timeline.holds.items
 abbrev pub spins_of : Timeline → List TraceEvent
 spins_of timeline = flat_map (spin_events timeline.lanes.items) timeline.spins.items
 
+abbrev pub mutexes_of : Timeline → List TraceEvent
+mutexes_of timeline = map mutex_event (enumerate_from 0 timeline.mutexes.items)
+
+abbrev pub owned_of : Timeline → List TraceEvent
+owned_of timeline = map owning_event timeline.owned.items
+
 abbrev pub turns_of : Timeline → List TraceEvent
 turns_of timeline = map turn_event timeline.turns.items
 
--- the process of the spin locks, if there are any, and that of the turns
+-- the process of the spin locks, if there are any, that of the mutexes, and that of the turns
 abbrev pub lock_events : Timeline → List TraceEvent
 lock_events timeline =
     if length timeline.locks.items == 0 then []
     else ProcessName locks (codes "spin locks") ∷ locks_of timeline ++ holds_of timeline ++ spins_of timeline
+
+abbrev pub mutex_events : Timeline → List TraceEvent
+mutex_events timeline =
+    if length timeline.mutexes.items == 0 then []
+    else ProcessName mutexes (codes "mutexes") ∷ mutexes_of timeline ++ owned_of timeline
 
 abbrev pub turn_events : Timeline → List TraceEvent
 turn_events timeline =
@@ -190,7 +217,7 @@ turn_events timeline =
 abbrev pub events_of : Timeline → List TraceEvent
 events_of timeline =
     processes ++ lanes_of timeline ++ slices_of timeline ++ marks_of timeline ++ ticks_of timeline
-    ++ lock_events timeline ++ turn_events timeline
+    ++ lock_events timeline ++ mutex_events timeline ++ turn_events timeline
 
 -- ---- the text
 

@@ -3,7 +3,7 @@
 ghost use Rattle.std.specs.Prelude.{◌≤◌, OnOk};
 ghost use Rattle.brd_timeline.specs.Bars.{GoesOn};
 
-use crate::layout::{HEIGHT, x_of};
+use crate::layout::{HEIGHT, LEAST_WIDTH, LETTER, MARGIN, x_of};
 use crate::number::put_attribute;
 use crate::slice::{put_ink, put_rect, put_span};
 use crate::timeline::Timeline;
@@ -15,14 +15,6 @@ use brd_text::{put, put_decimal};
 const COLOURS: [&str; 8] = [
     "#77aadd", "#ee8866", "#eedd88", "#ffaabb", "#99ddff", "#44bb99", "#bbcc33", "#aaaa00",
 ];
-
-/// The least width of a bar, in tenths of a pixel, so that each can be seen.
-const LEAST_WIDTH: u32 = 5;
-
-/// How much room a letter takes, and how much a label takes beside its letters.
-const LETTER: u32 = 65;
-
-const MARGIN: u32 = 60;
 
 /// Some processors.
 #[derive(Clone, Copy)]

@@ -26,6 +26,14 @@ pub(crate) const HEIGHT: u32 = 200;
 /// How far the lanes of one kind are from those of the kind before, beside that.
 const GAP: u32 = 120;
 
+/// The least width of a bar, so that each can be seen.
+pub(crate) const LEAST_WIDTH: u32 = 5;
+
+/// How much room a letter takes, and how much a label takes beside its letters.
+pub(crate) const LETTER: u32 = 65;
+
+pub(crate) const MARGIN: u32 = 60;
+
 /// How high an axis is, and how far the picture goes on below the last one.
 pub(crate) const AXIS: u32 = 260;
 
@@ -59,7 +67,7 @@ fn share_of(part: u64, whole: u64) -> u32
 
 /// Where a lane is, with so many lanes before it, and so many gaps.
 fn row_at(place: usize, gaps: u32) -> u32
-    requires { gaps ≤ 3 }
+    requires { gaps ≤ 4 }
     ensures is { result ≡ bars.row_at place gaps }
     ensures most { result ≤ 2700000 }
 {
@@ -77,18 +85,34 @@ pub(crate) fn y_of(place: usize, group: Group) -> u32
     }
 }
 
-/// How many spin locks have a lane: all of them, or none where with them there is more than can be told apart.
-pub(crate) fn locks_shown(timeline: &Timeline) -> usize {
+/// Whether there is room for the spin locks and the mutexes: with them there is no more than can be told apart.
+fn has_room(timeline: &Timeline) -> bool {
     let others = timeline.lanes.len() as u128
         + timeline.slices.len() as u128
         + timeline.marks.len() as u128;
     let locks = timeline.locks.len() as u128
         + timeline.holds.len() as u128
         + timeline.spins.len() as u128;
-    if others + locks > MOST_DRAWN as u128 {
-        return 0;
+    let mutexes = timeline.mutexes.len() as u128 + timeline.owned.len() as u128;
+    others + locks + mutexes <= MOST_DRAWN as u128
+}
+
+/// How many spin locks have a lane: all of them or none.
+pub(crate) fn locks_shown(timeline: &Timeline) -> usize {
+    if has_room(timeline) {
+        timeline.locks.len()
+    } else {
+        0
     }
-    timeline.locks.len()
+}
+
+/// How many mutexes have a lane: all of them or none.
+pub(crate) fn mutexes_shown(timeline: &Timeline) -> usize {
+    if has_room(timeline) {
+        timeline.mutexes.len()
+    } else {
+        0
+    }
 }
 
 /// Whether the turns have a lane: there are some of two processors.
@@ -111,13 +135,33 @@ pub(crate) fn lock_y(timeline: &Timeline, place: usize) -> u32
     row_at(timeline.lanes.len().saturating_add(place), 2)
 }
 
+/// Where the lane of the mutex at a place of their list is: below those of the spin locks.
+pub(crate) fn mutex_y(timeline: &Timeline, place: usize) -> u32
+    ensures { result ≤ 2700000 }
+{
+    let locks = locks_shown(timeline);
+    let above = timeline.lanes.len().saturating_add(locks);
+    row_at(above.saturating_add(place), 2 + gap_of(locks))
+}
+
+/// One gap below some lanes, none where there is no lane.
+fn gap_of(lanes: usize) -> u32
+    ensures { result ≤ 1 }
+{
+    if lanes == 0 { 0 } else { 1 }
+}
+
 /// Where the lane of the turns is.
 pub(crate) fn turns_y(timeline: &Timeline) -> u32
     ensures { result ≤ 2700000 }
 {
     let locks = locks_shown(timeline);
-    let gaps = if locks == 0 { 2 } else { 3 };
-    row_at(timeline.lanes.len().saturating_add(locks), gaps)
+    let mutexes = mutexes_shown(timeline);
+    let above = timeline.lanes.len().saturating_add(locks);
+    row_at(
+        above.saturating_add(mutexes),
+        2 + gap_of(locks) + gap_of(mutexes),
+    )
 }
 
 /// Where the lanes end.
@@ -127,11 +171,15 @@ pub(crate) fn bottom_of(timeline: &Timeline) -> u32
     if shows_turns(timeline) {
         return turns_y(timeline) + STEP;
     }
-    let locks = locks_shown(timeline);
-    if locks == 0 {
-        return y_of(timeline.lanes.len(), Group::Task);
+    let mutexes = mutexes_shown(timeline);
+    if mutexes > 0 {
+        return mutex_y(timeline, mutexes);
     }
-    lock_y(timeline, locks)
+    let locks = locks_shown(timeline);
+    if locks > 0 {
+        return lock_y(timeline, locks);
+    }
+    y_of(timeline.lanes.len(), Group::Task)
 }
 
 /// How high the axes are together: where there are no ticks, there is only that of events.

@@ -3,9 +3,10 @@
 ghost use Rattle.std.specs.Prelude.{◌≤◌};
 
 use crate::cpus::Cpus;
-use crate::layout::{HEIGHT, LEFT, locks_shown, shows_turns};
+use crate::layout::{HEIGHT, LEFT, locks_shown, mutexes_shown, shows_turns};
 use crate::locks::{SPINS, SPINS_HEIGHT};
 use crate::mark::put_shape;
+use crate::mutexes::OWNED;
 use crate::number::put_attribute;
 use crate::slice::{colour_of, height_of};
 use crate::timeline::{Kind, MarkKind, Timeline, kind_name, mark_name};
@@ -46,6 +47,7 @@ pub(crate) fn put_legend(to: &mut Vec<u8>, timeline: &Timeline) -> Result<(), No
     put_kinds(to, timeline)?;
     let x = put_marks(to, timeline)?;
     let x = put_spins(to, timeline, x)?;
+    let x = put_owned(to, timeline, x)?;
     put_cpus(to, timeline, x)
 }
 
@@ -104,6 +106,16 @@ fn put_spins(to: &mut Vec<u8>, timeline: &Timeline, x: u32) -> Result<u32, NoMem
     put_swatch(to, SPINS, SPINS_HEIGHT, x, MARK_ROW)?;
     put_name(to, "spins", x, MARK_ROW)?;
     Ok(after(x, "spins"))
+}
+
+/// Puts what a mutex is that a task has at the end, if there is one. Answers where the next entry begins.
+fn put_owned(to: &mut Vec<u8>, timeline: &Timeline, x: u32) -> Result<u32, NoMemory> {
+    if mutexes_shown(timeline) == 0 || timeline.owned.is_empty() {
+        return Ok(x);
+    }
+    put_swatch(to, OWNED, HEIGHT, x, MARK_ROW)?;
+    put_name(to, "has the mutex", x, MARK_ROW)?;
+    Ok(after(x, "has the mutex"))
 }
 
 /// Puts the processors at the end that have turns or hold spin locks, and what stands for several.

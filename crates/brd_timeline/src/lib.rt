@@ -10,6 +10,7 @@ mod layout;
 mod legend;
 mod locks;
 mod mark;
+mod mutexes;
 mod number;
 mod picture;
 mod slice;
@@ -20,5 +21,7 @@ mod turns;
 pub use fault::PictureFault;
 pub use layout::MOST_DRAWN;
 pub use picture::svg;
-pub use timeline::{Group, Hold, Kind, Lane, Mark, MarkKind, Slice, Spinning, Timeline, Turn};
+pub use timeline::{
+    Group, Hold, Kind, Lane, Mark, MarkKind, Owning, Slice, Spinning, Timeline, Turn,
+};
 pub use trace_events::json;

@@ -4,21 +4,18 @@ ghost use Rattle.std.specs.Prelude.{◌≤◌, OnOk};
 ghost use Rattle.brd_timeline.specs.Bars.{GoesOn};
 
 use crate::cpus::{Bar, Cpus};
-use crate::layout::{HEIGHT, lock_y, locks_shown, x_of, y_of};
+use crate::layout::{HEIGHT, LEAST_WIDTH, lock_y, locks_shown, x_of, y_of};
 use crate::picture::put_title;
 use crate::slice::{put_rect, put_span};
 use crate::timeline::{Hold, Spinning, Timeline};
 use brd_base::NoMemory;
 use brd_text::{put, put_decimal};
 
-/// The colour of a stretch in which a task asks for a spin lock again and again.
+/// The colour of a stretch in which a task or a handler asks for a spin lock again and again.
 pub(crate) const SPINS: &str = "#d55e00";
 
 /// How high such a stretch is, at the bottom of the processor's slice.
 pub(crate) const SPINS_HEIGHT: u32 = HEIGHT / 4;
-
-/// The least width of one, in tenths of a pixel, so that each can be seen.
-const LEAST_WIDTH: u32 = 5;
 
 /// Puts the lanes of the spin locks at the end, and who asks for them, where there is room for them all.
 pub(crate) fn put_locks(to: &mut Vec<u8>, timeline: &Timeline) -> Result<(), NoMemory>

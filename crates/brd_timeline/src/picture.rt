@@ -13,6 +13,7 @@ use crate::layout::{HEIGHT, LEFT, MOST_DRAWN, WIDTH, axes_of, bottom_of, y_of};
 use crate::legend::put_legend;
 use crate::locks::put_locks;
 use crate::mark::put_marks;
+use crate::mutexes::put_mutexes;
 use crate::number::{put_attribute, put_tenths};
 use crate::slice::put_slices;
 use crate::timeline::{Lane, Timeline};
@@ -21,8 +22,8 @@ use brd_base::NoMemory;
 use brd_text::{put, put_decimal};
 
 /// Puts a timeline at the end as a picture ("Scalable Vector Graphics (SVG) 1.1", W3C): a lane for each processor, each
-/// task and each spin lock, and one for the turns; a legend above, and the axes of events and ticks below. Where memory
-/// runs out, a front of it may be there.
+/// task, each spin lock and each mutex, and one for the turns; a legend above, and the axes of events and ticks below.
+/// Where memory runs out, a front of it may be there.
 ///
 /// # Errors
 ///
@@ -63,6 +64,7 @@ fn put_picture(to: &mut Vec<u8>, timeline: &Timeline) -> Result<(), NoMemory>
     put_lanes(to, timeline)?;
     put_slices(to, timeline)?;
     put_locks(to, timeline)?;
+    put_mutexes(to, timeline)?;
     put_turns(to, timeline)?;
     put_marks(to, timeline)?;
     put(to, "</svg>\n")

@@ -5,22 +5,14 @@ ghost use Rattle.brd_timeline.specs.Names.{slice_name};
 ghost use Rattle.brd_timeline.specs.Bars as bars;
 
 use crate::escape::put_xml;
-use crate::layout::{HEIGHT, x_of, y_of};
+use crate::layout::{HEIGHT, LEAST_WIDTH, LETTER, MARGIN, x_of, y_of};
 use crate::number::put_attribute;
 use crate::timeline::{Kind, Slice, Timeline, kind_name, label_or, lane_at};
 use brd_base::NoMemory;
 use brd_text::{put, put_decimal};
 
-/// The least width of a slice, in tenths of a pixel, so that each can be seen.
-const LEAST_WIDTH: u32 = 5;
-
 /// The width from which on a slice is parted from the next by a gap.
 const PARTED: u32 = 30;
-
-/// How much room a letter takes, and how much a label takes beside its letters.
-const LETTER: u32 = 65;
-
-const MARGIN: u32 = 60;
 
 /// The colour of a kind, from a palette that is told apart without regard to how one sees colours (Okabe and Ito,
 /// "Color Universal Design"), with greys for what executes nothing.

@@ -102,7 +102,21 @@ pub struct Hold {
     pub to: u64,
 }
 
-/// A stretch in which a task asked for a spin lock again and again. It lies in a slice of the processor's lane.
+/// A stretch in which a task had a mutex. Those of one mutex don't overlap; between them nobody had it.
+#[derive(Clone, Copy)]
+pub struct Owning {
+    /// The mutex's place in the list of mutexes, from 0 on.
+    pub mutex: usize,
+    /// The number of the task.
+    pub task: u16,
+    /// The position at which it begins.
+    pub from: u64,
+    /// The position at which it ends, above `from`.
+    pub to: u64,
+}
+
+/// A stretch in which a task or a handler asked for a spin lock again and again. It lies in a slice of the processor's
+/// lane.
 #[derive(Clone, Copy)]
 pub struct Spinning {
     /// The processor's place in the list of lanes, from 0 on.
@@ -141,6 +155,10 @@ pub struct Timeline {
     pub holds: Vec<Hold>,
     /// Who asked for them.
     pub spins: Vec<Spinning>,
+    /// The numbers of the mutexes.
+    pub mutexes: Vec<u8>,
+    /// Who had them.
+    pub owned: Vec<Owning>,
     /// Whose steps the events were, ascending. Ticks and raises of lines are no steps.
     pub turns: Vec<Turn>,
     /// The positions of the ticks, ascending.

@@ -8,13 +8,13 @@ ghost use Rattle.brd_timeline.specs.Events as events;
 
 use crate::escape::{put_json, put_json_bytes};
 use crate::timeline::{
-    Group, Hold, Lane, Mark, Slice, Spinning, Timeline, Turn, kind_name, label_or, lane_at,
+    Group, Hold, Lane, Mark, Owning, Slice, Spinning, Timeline, Turn, kind_name, label_or, lane_at,
     mark_name,
 };
 use brd_base::NoMemory;
 use brd_text::{put, put_decimal};
 
-/// The processes that stand for the groups of lanes, for the ticks, the spin locks and the turns.
+/// The processes that stand for the groups of lanes, for the ticks, the spin locks, the turns and the mutexes.
 const PROCESSORS: u64 = 1;
 
 const TASKS: u64 = 2;
@@ -24,6 +24,8 @@ const TICKS: u64 = 3;
 const LOCKS: u64 = 4;
 
 const TURNS: u64 = 5;
+
+const MUTEXES: u64 = 6;
 
 /// Where an event is shown.
 #[derive(Clone, Copy)]
@@ -35,8 +37,8 @@ pub(crate) struct Track {
 }
 
 /// Puts a timeline at the end in the trace event format ("Trace Event Format", Google): a process for the processors,
-/// one for the tasks, one for the ticks, one for the spin locks and one for the turns, a thread for each lane, complete
-/// events for slices, and instants for marks and ticks. Where memory runs out, a front of it may be there.
+/// for the tasks, for the ticks, for the spin locks, for the mutexes and for the turns, a thread for each lane, complete
+/// events for slices, and instants for marks and ticks. If memory runs out, a front of it may be there.
 pub fn json(timeline: &Timeline, to: &mut Vec<u8>) -> Result<(), NoMemory>
     ensures text { OnOk result (to.new.items ≡ to.old.items ++ events.json_text timeline.now) }
     ensures ends { IfOk result (λ _. EndsWith (codes "\n]}\n") to.new.items) }
@@ -48,6 +50,7 @@ pub fn json(timeline: &Timeline, to: &mut Vec<u8>) -> Result<(), NoMemory>
     put_marks(to, timeline)?;
     put_ticks(to, timeline)?;
     put_locks(to, timeline)?;
+    put_mutexes(to, timeline)?;
     put_turns(to, timeline)?;
     put(to, "\n]}\n")
 }
@@ -86,6 +89,16 @@ fn lock_track(place: usize) -> Track
 {
     Track {
         process: LOCKS,
+        thread: thread_of(place),
+    }
+}
+
+/// The track of the mutex at a place of the list.
+fn mutex_track(place: usize) -> Track
+    ensures { result ≡ events.mutex_track place }
+{
+    Track {
+        process: MUTEXES,
         thread: thread_of(place),
     }
 }
@@ -183,6 +196,38 @@ fn put_spins(to: &mut Vec<u8>, timeline: &Timeline) -> Result<(), NoMemory>
     Ok(())
 }
 
+/// Puts the mutexes at the end, if there are any: their threads, and who has them.
+fn put_mutexes(to: &mut Vec<u8>, timeline: &Timeline) -> Result<(), NoMemory>
+    ensures { OnOk result (to.new.items ≡ to.old.items ++ events.behind (events.mutex_events timeline.now)) }
+{
+    if timeline.mutexes.is_empty() {
+        return Ok(());
+    }
+    put_process(to, MUTEXES, "mutexes")?;
+    put_mutex_threads(to, timeline)?;
+    put_owned(to, timeline)
+}
+
+/// Puts the threads of the mutexes at the end.
+fn put_mutex_threads(to: &mut Vec<u8>, timeline: &Timeline) -> Result<(), NoMemory>
+    ensures { OnOk result (to.new.items ≡ to.old.items ++ events.behind (events.mutexes_of timeline.now)) }
+{
+    for (place, mutex) in timeline.mutexes.iter().enumerate() {
+        put_mutex_thread(to, place, *mutex)?;
+    }
+    Ok(())
+}
+
+/// Puts at the end who has the mutexes.
+fn put_owned(to: &mut Vec<u8>, timeline: &Timeline) -> Result<(), NoMemory>
+    ensures { OnOk result (to.new.items ≡ to.old.items ++ events.behind (events.owned_of timeline.now)) }
+{
+    for owning in timeline.owned.iter() {
+        put_owning(to, *owning)?;
+    }
+    Ok(())
+}
+
 /// Puts the turns at the end, if there are any, and their thread.
 fn put_turns(to: &mut Vec<u8>, timeline: &Timeline) -> Result<(), NoMemory>
     ensures { OnOk result (to.new.items ≡ to.old.items ++ events.behind (events.turn_events timeline.now)) }
@@ -266,7 +311,7 @@ fn put_hold(to: &mut Vec<u8>, hold: Hold) -> Result<(), NoMemory>
     put_numbered(to, "held by cpu ", u64::from(hold.cpu))
 }
 
-/// Puts at the end that a task asks for a spin lock again and again, where it has a lane.
+/// Puts at the end that a task or a handler asks for a spin lock again and again, where it has a lane.
 fn put_spinning(to: &mut Vec<u8>, timeline: &Timeline, it: Spinning) -> Result<(), NoMemory>
     ensures { OnOk result
         (to.new.items ≡ to.old.items ++ events.behind (events.spin_events timeline.now.lanes.items it)) }
@@ -276,6 +321,29 @@ fn put_spinning(to: &mut Vec<u8>, timeline: &Timeline, it: Spinning) -> Result<(
     };
     put_stretch(to, track_of(lane, it.lane), (it.from, it.to), "spins")?;
     put_numbered(to, "spins for lock ", u64::from(it.lock))
+}
+
+/// Puts the thread of a mutex at the end.
+fn put_mutex_thread(to: &mut Vec<u8>, place: usize, mutex: u8) -> Result<(), NoMemory>
+    ensures { OnOk result (to.new.items ≡ to.old.items ++ events.behind (events.mutex_event (place, mutex) ∷ [])) }
+{
+    put_head(to, "M", mutex_track(place))?;
+    put(to, ",\"name\":\"thread_name\",\"args\":{\"name\":")?;
+    put_numbered(to, "mutex ", u64::from(mutex))?;
+    put(to, "}")
+}
+
+/// Puts at the end that a task has a mutex.
+fn put_owning(to: &mut Vec<u8>, owning: Owning) -> Result<(), NoMemory>
+    ensures { OnOk result (to.new.items ≡ to.old.items ++ events.behind (events.owning_event owning ∷ [])) }
+{
+    put_stretch(
+        to,
+        mutex_track(owning.mutex),
+        (owning.from, owning.to),
+        "held",
+    )?;
+    put_numbered(to, "held by task ", u64::from(owning.task))
 }
 
 /// Puts a turn at the end.

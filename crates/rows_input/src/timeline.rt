@@ -1,8 +1,8 @@
 //! A timeline that rows list, and its pictures.
 
 use brd_timeline::{
-    Group, Hold, Kind, Lane, Mark, MarkKind, PictureFault, Slice, Spinning, Timeline, Turn, json,
-    svg,
+    Group, Hold, Kind, Lane, Mark, MarkKind, Owning, PictureFault, Slice, Spinning, Timeline, Turn,
+    json, svg,
 };
 use std::alloc::{AllocError, Global};
 use test_help::unescaped;
@@ -84,7 +84,7 @@ fn put_mark(alloc: Global, timeline: &mut Timeline, text: &str) -> Result<(), Al
     Ok(())
 }
 
-/// A number of a processor or of a spin lock: what is greater than 255 is 255.
+/// A number of a processor, a task, a spin lock or a mutex: what is greater than 255 is 255.
 fn small(text: &str) -> u8 {
     number(text).min(255) as u8
 }
@@ -97,6 +97,20 @@ fn put_hold(timeline: &mut Timeline, text: &str) -> Result<(), AllocError> {
     timeline.holds.push(Hold {
         lock: number(lock) as usize,
         cpu: small(cpu),
+        from: number(from),
+        to: number(to),
+    })?;
+    Ok(())
+}
+
+/// Puts at the end that a task has a mutex.
+fn put_owning(timeline: &mut Timeline, text: &str) -> Result<(), AllocError> {
+    let (mutex, text) = word(text);
+    let (task, text) = word(text);
+    let (from, to) = word(text);
+    timeline.owned.push(Owning {
+        mutex: number(mutex) as usize,
+        task: u16::from(small(task)),
         from: number(from),
         to: number(to),
     })?;
@@ -148,6 +162,8 @@ pub fn add(
         "lock" => timeline.locks.push(small(text))?,
         "hold" => put_hold(timeline, text)?,
         "spin" => put_spinning(timeline, text)?,
+        "mutex" => timeline.mutexes.push(small(text))?,
+        "owning" => put_owning(timeline, text)?,
         "turn" => put_turn(timeline, text)?,
         "tick" => timeline.ticks.push(number(text))?,
         "first" => timeline.first_tick = number(text),
@@ -181,6 +197,8 @@ pub fn empty(alloc: Global) -> Timeline {
         locks: Vec::new(alloc),
         holds: Vec::new(alloc),
         spins: Vec::new(alloc),
+        mutexes: Vec::new(alloc),
+        owned: Vec::new(alloc),
         turns: Vec::new(alloc),
         ticks: Vec::new(alloc),
         first_tick: 1,

@@ -10,7 +10,7 @@ value:  .word   0x7fffffff
 sum:    lui     $t0, %hi(value)
         lw      $t1, %lo(value)($t0)
         addi    $t1, $t1, 1             # more than a signed word
-calls:  addiu   $v0, $0, 101
+calls:  addiu   $v0, $0, 106
         syscall                         # no such call
         addiu   $a0, $0, 7
         addiu   $v0, $0, 25

@@ -1,6 +1,6 @@
 # Each answer that isn't E_OK once, of task 1, in the order of the kernel's table; E_RLWAI and E_TMOUT of waits are in waits/.
 # Task 2 is dormant and task 3 waits for flag 1, of which only one task may wait; nobody waits for semaphore 1, which is full.
-first:  addiu   $v0, $0, 101
+first:  addiu   $v0, $0, 106
         syscall                         # no such call: E_RSFN
         addiu   $v0, $0, 58
         syscall                         # ret_int of a task: E_CTX
@@ -33,7 +33,7 @@ first:  addiu   $v0, $0, 101
         addiu   $a1, $0, 2
         addiu   $v0, $0, 5
         syscall                         # chg_pri(9, 2): E_NOEXS again
-        addiu   $v0, $0, 102
+        addiu   $v0, $0, 107
         syscall                         # no such call again
 end:    b       end
         nop

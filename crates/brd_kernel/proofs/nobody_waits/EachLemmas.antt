@@ -19,7 +19,7 @@ use Rattle.brd_objects.specs.Flags.{joined, all_released, with_all_released}
 use Rattle.brd_objects.specs.DataQueues.{DataQueueState}
 use Rattle.brd_kernel.specs.declared.processor.Processor.{Processor}
 use Rattle.brd_kernel.specs.Answer.{e_ok}
-use Rattle.brd_kernel.specs.Kernel.{KernelState, with_tasks, with_processor, processor_at, unmarked}
+use Rattle.brd_kernel.specs.Kernel.{KernelState, with_tasks, with_processor, processor_at, unmarked, letting_go}
 use Rattle.brd_kernel.specs.Waits.{Change, changed_of, changed_for, leaving, moving, can_wait, with_wait, released_in, reason_of, unlisted_from, unlisted, broken_off, ended_in, reordered_in, answer_by, timed_out, all_timed_out, ticked_on, faulted_task, faulted_in, ended_by_fault, with_released, given_in, all_given_in, quits_in, prioritized}
 use Rattle.brd_kernel.specs.Services as table
 use Rattle.brd_kernel.specs.Services.{is_sleep, with_all_released_in, with_satisfied_of, handed_over}
@@ -340,7 +340,7 @@ faulted-task k cpu p (Some id) was =
 faulted : (k : KernelState) (cpu : ℕ) (found : Option Processor) → EachIsKept k → EachIsKept (faulted_in k cpu found)
 faulted k cpu None was = was
 faulted k cpu (Some p) was =
-    either EachIsKept (is_some p.handling) _ _ (processor-kept k cpu (record p { stopped = true }) was)
+    either EachIsKept (is_some p.handling) _ _ (processor-kept k cpu (record (letting_go p) { stopped = true }) was)
     (faulted-task k cpu p p.running was)
 
 pub fault-kept : (k : KernelState) (cpu : ℕ) → EachIsKept k → EachIsKept (ended_by_fault k cpu)

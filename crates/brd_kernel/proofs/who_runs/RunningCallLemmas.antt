@@ -24,7 +24,7 @@ use Rattle.brd_objects.specs.DataQueues.{DataQueueState, sent, outcome, forced, 
 use Rattle.brd_kernel.specs.declared.processor.Processor.{Processor}
 use Rattle.brd_kernel.specs.declared.call.Call.{Call}
 use Rattle.brd_kernel.specs.Answer.{e_ok}
-use Rattle.brd_kernel.specs.Kernel.{KernelState, with_tasks, with_processor, processor_at, is_held, running_in, running_on, unmarked, with_pending, handles, accepted_line}
+use Rattle.brd_kernel.specs.Kernel.{KernelState, with_tasks, with_processor, processor_at, is_held, running_in, running_on, executor_in, unmarked, letting_go, with_pending, handles, accepted_line}
 use Rattle.brd_kernel.specs.Row.{is_absent}
 use Rattle.brd_kernel.specs.Waits.{can_wait, with_wait, released_in, reason_of, unlisted, broken_off, ended_in, reordered_in, answer_by, timed_out, all_timed_out, ticked_on, faulted_task, faulted_in, ended_by_fault, with_released, given_in, all_given_in, quits_in, prioritized}
 use Rattle.brd_kernel.specs.Dispatch.{is_same_task}
@@ -32,7 +32,7 @@ use Rattle.brd_kernel.specs.Services.{runs_held, is_held_elsewhere, is_no_proces
 use Rattle.brd_kernel.specs.Running.{is_ready_on, IsRunning, IsOrderly}
 use Rattle.brd_kernel.proofs.who_waits.ListLemmas.{same-number}
 use Rattle.brd_kernel.proofs.WaitLemmas.{unlisted-only, reordered-only}
-use Rattle.brd_kernel.proofs.WalkLemmas.{IsOfBoard, Fact, Unheld, OfTask, HoldsNone, May, Law, lacked, awaiting, serve-leaves}
+use Rattle.brd_kernel.proofs.WalkLemmas.{IsOfBoard, Fact, Unheld, OfTask, MayTake, HoldsNone, May, Law, lacked, awaiting, serve-leaves}
 use Rattle.brd_kernel.proofs.SameLemmas.{same-entered, same-all_given}
 use Rattle.brd_kernel.proofs.who_runs.ReadyLemmas.{KeepsReady, activated-keeps, ended-others, wakeup-keeps, cleared-keeps, blocked-active, suspended-active, through-others, resumed-keeps, released-keeps, priority-keeps, migrated-others, turned-keeps}
 use Rattle.brd_kernel.proofs.RingLemmas.{Outlasts, rung-keeps}
@@ -198,9 +198,10 @@ faulted-task-holds k cpu p (Some id) there runs handling stopped was =
 
 faulted-by : (handling : Bool) (k : KernelState) (cpu : ℕ) (p : Processor) → is_some p.handling ≡ handling → processor_at k cpu ≡ Some p →
     p.stopped ≡ false → IsRunning k →
-    HoldsReady (if handling then with_processor k cpu (record p { stopped = true }) else faulted_task k cpu p p.running)
+    HoldsReady (if handling then with_processor k cpu (record (letting_go p) { stopped = true }) else faulted_task k cpu p p.running)
 faulted-by true k cpu p test there stopped was =
-    runs-hold (with_processor k cpu (record p { stopped = true })) (marked-runs k cpu p (record p { stopped = true }) there refl was)
+    runs-hold (with_processor k cpu (record (letting_go p) { stopped = true }))
+    (marked-runs k cpu p (record (letting_go p) { stopped = true }) there refl was)
 faulted-by false k cpu p test there stopped was = faulted-task-holds k cpu p p.running there refl test stopped was
 
 pub fault-holds : (k : KernelState) (cpu : ℕ) (p : Processor) → processor_at k cpu ≡ Some p → p.stopped ≡ false → IsRunning k →
@@ -221,13 +222,20 @@ pub record IsTaskOf (p : Processor) (caller : ℕ) : Type 0 where
   pub running : p.running ≡ Some caller
   pub unmarked_free : is_held (unmarked p) ≡ false
 
-abbrev pub known_of : Processor → ℕ → Fact → Type 0
-known_of p caller Unheld = IsFree p caller
-known_of p caller OfTask = IsTaskOf p caller
-known_of p caller HoldsNone = p.spin ≡ None
+-- its processor may take a spin lock: somebody executes there, without the profile its task
+pub record IsTaker (standard : Bool) (p : Processor) : Type 0 where
+  pub executes : is_some (executor_in (Some p)) ≡ true
+  pub plain : standard ≡ false → p.handling ≡ None
 
-abbrev pub MayServe : Processor → ℕ → Call → Type 0
-MayServe p caller c = May (known_of p caller) caller c
+-- in a kernel that has the profile, or not
+abbrev pub known_of : Bool → Processor → ℕ → Fact → Type 0
+known_of standard p caller Unheld = IsFree p caller
+known_of standard p caller OfTask = IsTaskOf p caller
+known_of standard p caller MayTake = IsTaker standard p
+known_of standard p caller HoldsNone = p.spin ≡ None
+
+abbrev pub MayServe : Bool → Processor → ℕ → Call → Type 0
+MayServe standard p caller c = May (known_of standard p caller) caller c
 
 -- The caller waits.
 
@@ -319,8 +327,9 @@ parts-hold k new same tasks was = runs-hold new (parts-run k new same tasks was)
 
 ended-handler-holds : (k : KernelState) (cpu : ℕ) (p : Processor) → processor_at k cpu ≡ Some p → IsRunning k → HoldsReady (handler_ended k cpu p)
 ended-handler-holds k cpu p there was =
-    let marked : KernelState = with_processor k cpu (record p { handling = None }) in
-    parts-hold marked (handler_ended k cpu p) refl refl (marked-runs k cpu p (record p { handling = None }) there refl was)
+    let marked : KernelState = with_processor k cpu (record (letting_go p) { handling = None }) in
+    parts-hold marked (handler_ended k cpu p) refl refl
+    (marked-runs k cpu p (record (letting_go p) { handling = None }) there refl was)
 
 ext-holds : (k : KernelState) (cpu caller : ℕ) (p : Processor) → processor_at k cpu ≡ Some p → IsTaskOf p caller → IsRunning k →
     HoldsReady (unmarked_on (quits_in k caller) cpu (processor_at k cpu))
@@ -338,7 +347,7 @@ ter-holds k id free was =
     (ap (λ ps. running_in (slice_index_or ps cpu None)) (sym same) ∙ runs)) on
 
 holds-law : (k : KernelState) (cpu : ℕ) (p : Processor) → processor_at k cpu ≡ Some p → IsRunning k →
-    Law (known_of p (caller_on k cpu)) HoldsReady k cpu (caller_on k cpu)
+    Law (known_of k.standard p (caller_on k cpu)) HoldsReady k cpu (caller_on k cpu)
 holds-law k cpu p found was =
     let caller : ℕ = caller_on k cpu in
     record {
@@ -396,6 +405,6 @@ holds-law k cpu p found was =
     }
 
 -- a call that the gate lets through
-pub serve-holds : (k : KernelState) (cpu : ℕ) (p : Processor) (c : Call) → processor_at k cpu ≡ Some p → MayServe p (caller_on k cpu) c →
-    IsRunning k → HoldsReady (serve_of k cpu c).kernel
+pub serve-holds : (k : KernelState) (cpu : ℕ) (p : Processor) (c : Call) → processor_at k cpu ≡ Some p →
+    MayServe k.standard p (caller_on k cpu) c → IsRunning k → HoldsReady (serve_of k cpu c).kernel
 serve-holds k cpu p c there may was = serve-leaves HoldsReady k cpu (holds-law k cpu p there was) prioritized-holds c may

@@ -20,7 +20,7 @@ use Rattle.brd_kernel.specs.Answer.{e_ok}
 use Rattle.brd_kernel.specs.declared.processor.Executor.{Executor}
 use Rattle.brd_kernel.specs.declared.processor.Executor.TheVariants as executor
 use Rattle.brd_kernel.specs.Dispatch.{dispatched}
-use Rattle.brd_kernel.specs.Kernel.{KernelState, with_tasks, processor_at, unmarked, with_context_of, with_pending, handles, accepted_line}
+use Rattle.brd_kernel.specs.Kernel.{KernelState, with_tasks, processor_at, unmarked, letting_go, with_context_of, with_pending, handles, accepted_line}
 use Rattle.brd_kernel.specs.Waits.{reason_of, answer_by, timed_out, all_timed_out, prioritized, ticked_on, ticked, faulted_task, faulted_in, ended_by_fault, all_given_in, quits_in}
 use Rattle.brd_kernel.specs.Services as table
 use Rattle.brd_kernel.specs.Services.{unmarked_on, handler_ended, serve_of, caller_on, callers_priority}
@@ -156,7 +156,7 @@ faulted-task-keeps k cpu p (Some id) was =
 faulted-keeps : (k : KernelState) (cpu : ℕ) (found : Option Processor) → StandsIn [] k → StandsIn [] (faulted_in k cpu found)
 faulted-keeps k cpu None was = was
 faulted-keeps k cpu (Some p) was =
-    either (StandsIn []) (is_some p.handling) _ _ (processor-keeps k cpu (record p { stopped = true }) was)
+    either (StandsIn []) (is_some p.handling) _ _ (processor-keeps k cpu (record (letting_go p) { stopped = true }) was)
     (faulted-task-keeps k cpu p p.running was)
 
 pub fault-keeps : (k : KernelState) (cpu : ℕ) → WaitsAreKept k → WaitsAreKept (ended_by_fault k cpu)

@@ -103,7 +103,7 @@ impl Kernel {
             cpu,
             Processor {
                 handling: None,
-                ..processor
+                ..processor.letting_go()
             },
         );
         self.common.handler_contexts[cpu as usize] = no_context();

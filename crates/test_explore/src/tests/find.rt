@@ -66,8 +66,8 @@ const FAIR: &[Event] = &[Event::Step(1), Event::Step(2), Event::Tick];
 /// (By turns, step for step, the update is lost too: both load before either stores.) Of n steps of two processors that
 /// both go on for ever by local instructions 2 n schedules are tried with at most two preemptions: the first processor,
 /// and the place of the only switch, since that processor sleeps then. With one tick, at one of n places, n - 1 steps
-/// are left, and with one preemption no schedule is left out. While a time handler is due who waits isn't in a deadlock,
-/// and the tick does something that raises the handler's line.
+/// are left, and with one preemption no schedule is left out. While a time handler is due, who waits isn't in a
+/// deadlock, and the tick does something that raises the handler's line.
 const CASES: &[Case] = &[
     Case {
         source: LOST_UPDATE,

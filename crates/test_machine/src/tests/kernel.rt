@@ -171,6 +171,7 @@ enum Scene {
     OfProcessors,
     Held(Call, Call),
     SpinLocks,
+    HandlersLocks,
     OneProcessor,
     EightProcessors,
     OfObjects,
@@ -188,6 +189,7 @@ fn made(alloc: Global, scene: Scene) -> Result<Kernel, NoMemory> {
     match scene {
         Scene::OneProcessor => with_lines(alloc, false),
         Scene::EightProcessors => with_lines(alloc, true),
+        Scene::HandlersLocks => with_handlers(alloc),
         Scene::OfObjects | Scene::Objects => with_objects(alloc),
         Scene::Mutexes | Scene::Pools | Scene::Mailboxes => of_mutexes(alloc),
         _ => two(alloc),
@@ -210,6 +212,7 @@ fn does(kernel: &mut Kernel, scene: Scene) -> bool {
         Scene::OfProcessors => refuses_of_processors(kernel),
         Scene::Held(mark, unmark) => holds(kernel, mark, unmark),
         Scene::SpinLocks => locks(kernel),
+        Scene::HandlersLocks => lock_in_handlers(kernel),
         Scene::OneProcessor => !kernel.raise(32) && handles_all(kernel),
         Scene::EightProcessors => handle_their_own(kernel),
         Scene::OfObjects => refuses_of_objects(kernel),
@@ -396,6 +399,61 @@ fn locks(kernel: &mut Kernel) -> bool {
 #[test]
 fn spin_locks(rt: HostRuntime) {
     assert!(rt; goes_well(rt.alloc(), Scene::SpinLocks));
+}
+
+/// Calls of a handler of processor 1 and of one of processor 2. A handler that ends while its processor holds a spin
+/// lock leaves it free.
+const LOCKS_OF_HANDLERS: &[Served] = &[
+    (1, Call::LocCpu, OK, 0),
+    (1, Call::LocCpu, OK, 0),
+    (1, Call::UnlCpu, OK, 0),
+    (1, Call::LocSpn(1), OK, 0),
+    (2, Call::LocSpn(1), Reply::Again, 0),
+    (2, Call::TrySpn(1), OBJ, 0),
+    (2, Call::UnlSpn(1), ILUSE, 0),
+    (1, Call::UnlSpn(1), OK, 0),
+    (2, Call::TrySpn(1), OK, 0),
+    (2, Call::RetInt, Reply::Silent, 0),
+    (1, Call::LocSpn(1), OK, 0),
+];
+
+/// Whether a processor is neither CPU-locked nor holds a spin lock.
+fn is_unmarked(kernel: &Kernel, cpu: u8) -> bool {
+    kernel.marks(cpu)
+        == Some(Marks {
+            locked: false,
+            disabled: false,
+            spin: None,
+        })
+}
+
+/// Whether handlers lock their processors and take a spin lock so, whose end and whose exception free it.
+fn lock_in_handlers(kernel: &mut Kernel) -> bool {
+    if !kernel.raise(1)
+        || !kernel.raise(2)
+        || kernel.accept(1) != Some(1)
+        || kernel.accept(2) != Some(2)
+    {
+        return false;
+    }
+    first_other(kernel, LOCKS_OF_HANDLERS).is_none()
+        && is_unmarked(kernel, 2)
+        && kernel.spin(1) == Some(Spin::Held(1))
+        && ends_by_fault(kernel)
+}
+
+/// Whether an exception in the handler of processor 1 stops it, with its spin lock free.
+fn ends_by_fault(kernel: &mut Kernel) -> bool {
+    kernel.end_by_fault(1);
+    kernel.standing(1) == Some(Standing::Stopped)
+        && is_unmarked(kernel, 1)
+        && kernel.spin(1) == Some(Spin::Free)
+}
+
+/// Handlers that CPU-lock their processors, and take a spin lock.
+#[test]
+fn locks_of_handlers(rt: HostRuntime) {
+    assert!(rt; goes_well(rt.alloc(), Scene::HandlersLocks));
 }
 
 const CALLS_OF_MUTEXES: &[Served] = &[
@@ -614,6 +672,39 @@ fn with_lines(alloc: Global, in_turn: bool) -> Result<Kernel, NoMemory> {
         &[],
         &[],
     )
+}
+
+/// A kernel of two processors with the profile, with spin lock 1, and with the handlers of line 1, of processor 1, and
+/// of line 2, of processor 2.
+fn with_handlers(alloc: Global) -> Result<Kernel, NoMemory> {
+    let lines = [line_of(1, 1), line_of(2, 2)];
+    Kernel::new(
+        alloc,
+        true,
+        2,
+        &[],
+        &lines,
+        &[],
+        &[],
+        &[],
+        &[SpinLockConfig { id: 1 }],
+        &[],
+        &[],
+        &[],
+    )
+}
+
+/// The line of a handler of a processor.
+fn line_of(line: u8, cpu: u8) -> LineSetup {
+    LineSetup {
+        line,
+        handler: Handler {
+            cpu,
+            address: 0x8000_0000,
+            argument: u32::from(line),
+        },
+        course: None,
+    }
 }
 
 /// Whether a processor accepts the interrupt of a line, and no other until its handler has ended.

@@ -43,21 +43,46 @@ const DISABLED: Agent = Agent::Task {
     holding: false,
 };
 
+/// A handler in its ordinary state.
+const HANDLER: Agent = Agent::Handler {
+    locked: false,
+    holding: false,
+};
+
+const LOCKED_HANDLER: Agent = Agent::Handler {
+    locked: true,
+    holding: false,
+};
+
+/// A handler whose processor holds a spin lock, and so is CPU-locked.
+const HOLDING_HANDLER: Agent = Agent::Handler {
+    locked: true,
+    holding: true,
+};
+
 /// From where a call may come: from a task, a CPU-locked one, one whose processor holds a spin lock, one with
-/// dispatching disabled, a handler.
-type Places = (bool, bool, bool, bool, bool);
+/// dispatching disabled; from a handler, a CPU-locked one, one whose processor holds a spin lock.
+type Places = ((bool, bool, bool, bool), (bool, bool, bool));
 
-const TASKS: Places = (true, false, false, true, false);
+const TASKS: Places = ((true, false, false, true), NONE);
 
-const ALSO_LOCKED: Places = (true, true, true, true, false);
+const ALSO_LOCKED: Places = ((true, true, true, true), NONE);
 
-const NOT_HOLDING: Places = (true, true, false, true, false);
+const NOT_HOLDING: Places = ((true, true, false, true), NONE);
 
-const WAITS: Places = (true, false, false, false, false);
+const WAITS: Places = ((true, false, false, false), NONE);
 
-const HANDLERS: Places = (false, false, false, false, true);
+const NONE: (bool, bool, bool) = (false, false, false);
 
-const ANYWHERE: Places = (true, true, true, true, true);
+const HANDLERS: Places = (NO_TASK, (true, false, false));
+
+const ALSO_LOCKED_HANDLERS: Places = (NO_TASK, (true, true, true));
+
+const HANDLERS_NOT_HOLDING: Places = (NO_TASK, (true, true, false));
+
+const NO_TASK: (bool, bool, bool, bool) = (false, false, false, false);
+
+const ANYWHERE: Places = ((true, true, true, true), (true, true, true));
 
 /// A call by its name and its arguments, with zeros after them.
 type Named = (&'static str, [u32; 4]);
@@ -118,7 +143,7 @@ const NUMBERS: &[(u32, Places, Named)] = &[
     (55, HANDLERS, ("irot_rdq", [11, 0, 0, 0])),
     (56, HANDLERS, ("get_tid", [0, 0, 0, 0])),
     (57, HANDLERS, ("imact_tsk", [11, 22, 0, 0])),
-    (58, HANDLERS, ("ret_int", [0, 0, 0, 0])),
+    (58, ALSO_LOCKED_HANDLERS, ("ret_int", [0, 0, 0, 0])),
     (60, TASKS, ("loc_spn", [11, 0, 0, 0])),
     (61, TASKS, ("try_spn", [11, 0, 0, 0])),
     (62, ALSO_LOCKED, ("unl_spn", [11, 0, 0, 0])),
@@ -163,6 +188,11 @@ const PROFILE_NUMBERS: &[(u32, Places, Named)] = &[
     (98, HANDLERS, ("stp_alm", [11, 0, 0, 0])),
     (99, TASKS, ("ref_cyc", [11, 22, 0, 0])),
     (100, TASKS, ("ref_alm", [11, 22, 0, 0])),
+    (101, ALSO_LOCKED_HANDLERS, ("loc_cpu", [0, 0, 0, 0])),
+    (102, HANDLERS_NOT_HOLDING, ("unl_cpu", [0, 0, 0, 0])),
+    (103, HANDLERS, ("loc_spn", [11, 0, 0, 0])),
+    (104, HANDLERS, ("try_spn", [11, 0, 0, 0])),
+    (105, ALSO_LOCKED_HANDLERS, ("unl_spn", [11, 0, 0, 0])),
     (112, HANDLERS, ("get_pid", [0, 0, 0, 0])),
 ];
 
@@ -318,18 +348,31 @@ fn is_read(number: u32, agent: Agent, may: bool, wanted: Named) -> bool {
 
 /// The first of these numbers that isn't read as it should be from somewhere.
 fn first_wrong(numbers: &[(u32, Places, Named)]) -> Option<u32> {
-    for (number, (task, locked, holding, disabled, handler), call) in numbers {
-        let number = *number;
-        if !is_read(number, TASK, *task, *call)
-            || !is_read(number, LOCKED, *locked, *call)
-            || !is_read(number, HOLDING, *holding, *call)
-            || !is_read(number, DISABLED, *disabled, *call)
-            || !is_read(number, Agent::Handler, *handler, *call)
+    for (number, (tasks, handlers), call) in numbers {
+        if !is_read_in_task(*number, *tasks, *call)
+            || !is_read_in_handler(*number, *handlers, *call)
         {
-            return Some(number);
+            return Some(*number);
         }
     }
     None
+}
+
+/// Whether a number is read as this call from those tasks from which it may come.
+fn is_read_in_task(number: u32, from: (bool, bool, bool, bool), call: Named) -> bool {
+    let (task, locked, holding, disabled) = from;
+    is_read(number, TASK, task, call)
+        && is_read(number, LOCKED, locked, call)
+        && is_read(number, HOLDING, holding, call)
+        && is_read(number, DISABLED, disabled, call)
+}
+
+/// Whether a number is read as this call from those handlers from which it may come.
+fn is_read_in_handler(number: u32, from: (bool, bool, bool), call: Named) -> bool {
+    let (handler, locked, holding) = from;
+    is_read(number, HANDLER, handler, call)
+        && is_read(number, LOCKED_HANDLER, locked, call)
+        && is_read(number, HOLDING_HANDLER, holding, call)
 }
 
 /// Each number with its call, and from where it may come.
@@ -348,7 +391,7 @@ const NO_NUMBERS: &[u32] = &[
     47,
     59,
     63,
-    101,
+    106,
     111,
     115,
     0x101,
@@ -369,7 +412,9 @@ fn is_nowhere(number: u32, standard: bool) -> bool {
         && is_none(number, LOCKED, standard)
         && is_none(number, HOLDING, standard)
         && is_none(number, DISABLED, standard)
-        && is_none(number, Agent::Handler, standard)
+        && is_none(number, HANDLER, standard)
+        && is_none(number, LOCKED_HANDLER, standard)
+        && is_none(number, HOLDING_HANDLER, standard)
 }
 
 /// The first of `NO_NUMBERS` that isn't refused from somewhere, with the profile; and the first one of the profile's

@@ -14,7 +14,7 @@
 static struct {
     const char *call;
     INT answer;
-} handled[13];
+} handled[24];
 static INT calls;
 static INT said;
 
@@ -37,6 +37,17 @@ void handler(INHNO line)
     HANDLED(get_tim(&time));
     HANDLED(isig_tim());
     HANDLED(isnd_mbx(ONE, &low.msgque));
+    HANDLED(iloc_cpu());
+    HANDLED(sns_loc());
+    HANDLED(isig_sem(ONE));
+    HANDLED(iunl_cpu());
+    HANDLED(iloc_spn(ONE));
+    HANDLED(iunl_cpu());
+    HANDLED(itry_spn(ONE));
+    HANDLED(iunl_spn(ONE));
+    HANDLED(itry_spn(ONE));
+    HANDLED(iunl_spn(ONE));
+    HANDLED(sns_loc());
     HANDLED(iwup_tsk(MAIN));
 }
 
@@ -93,6 +104,11 @@ static void marks(void)
     unl_cpu();
     SAY(locked);
     SAY(refused);
+    SAY(iloc_cpu());
+    SAY(iunl_cpu());
+    SAY(iloc_spn(ONE));
+    SAY(itry_spn(ONE));
+    SAY(iunl_spn(ONE));
 }
 
 static void processors(void)

@@ -17,3 +17,7 @@ loop-at-preserved g c =
           (subst (VisitedSo (sharing_for c.args.sharing.now c.args.wanted.now) c.args.among.now c.args.wanted.now c.visit.new.spots here.0)
           c.in-Done.is (c.in_ok-visit.ensures.so here.0 here.1));
     }
+
+pub returns-then-len-most-clause-so : goal.returns-then-len-most-clause-so
+returns-then-len-most-clause-so g c = λ at less p is.
+    c.loop-at.invariant.done at (omega (arith, less, c.if-len-most.true, c.len-2.ensures, c.loop-at-test.false)) p is

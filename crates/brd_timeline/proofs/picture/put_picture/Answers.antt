@@ -9,10 +9,12 @@ returns-clause-slices c =
     let before = c.put_lanes.new.to.items in
     let slices = c.put_slices.new.to.items in
     let locks = c.put_locks.new.to.items in
+    let mutexes = c.put_mutexes.new.to.items in
     let turns = c.put_turns.new.to.items in
     let marks = c.put_marks.new.to.items in
     let new = c.put.new.to.items in
-    let behind = goes_on_by slices turns marks (goes_on_by slices locks turns c.in_ok-put_locks.ensures c.in_ok-put_turns.ensures)
+    let behind = goes_on_by slices turns marks (goes_on_by slices mutexes turns
+    (goes_on_by slices locks mutexes c.in_ok-put_locks.ensures c.in_ok-put_mutexes.ensures) c.in_ok-put_turns.ensures)
     c.in_ok-put_marks.ensures in
     on_ok c.put.result (λ e. holds before slices new (slices_text c.args.timeline.now) c.in_ok-put_slices.ensures
     (goes_on_put slices marks new (codes "</svg>\n") behind e)) c.put.ensures

@@ -19,6 +19,7 @@ returns-clause-text c =
     let marks = flat_map (events.mark_events t.lanes.items) t.marks.items in
     let ticks = map (events.tick_event t.first_tick) (enumerate_from 0 t.ticks.items) in
     let locks = events.lock_events t in
+    let mutexes = events.mutex_events t in
     let turns = events.turn_events t in
     let e0 : c.put_processes.new.to.items ≡ old ++ (head ++ events.joined (first ∷ l0)) =
     c.in_ok-put_processes.ensures ∙ (ap (λ (them : List ℕ). them ++ events.joined (first ∷ l0)) c.in_ok-put.ensures
@@ -30,10 +31,12 @@ returns-clause-text c =
     c.in_ok-put_ticks.ensures in
     let e5 = grown old c.put_ticks.new.to.items c.put_locks.new.to.items head first ((((l0 ++ lanes) ++ slices) ++ marks) ++ ticks) locks e4
     c.in_ok-put_locks.ensures in
-    let e6 = grown old c.put_locks.new.to.items c.put_turns.new.to.items head first (((((l0 ++ lanes) ++ slices) ++ marks) ++ ticks) ++ locks) turns e5
-    c.in_ok-put_turns.ensures in
-    let all = first ∷ ((((((l0 ++ lanes) ++ slices) ++ marks) ++ ticks) ++ locks) ++ turns) in
-    on_ok c.put-2.result (λ e. e ∙ (ap (λ (them : List ℕ). them ++ codes "\n]}\n") e6
+    let e6 = grown old c.put_locks.new.to.items c.put_mutexes.new.to.items head first (((((l0 ++ lanes) ++ slices) ++ marks) ++ ticks) ++ locks)
+    mutexes e5 c.in_ok-put_mutexes.ensures in
+    let e7 = grown old c.put_mutexes.new.to.items c.put_turns.new.to.items head first
+    ((((((l0 ++ lanes) ++ slices) ++ marks) ++ ticks) ++ locks) ++ mutexes) turns e6 c.in_ok-put_turns.ensures in
+    let all = first ∷ (((((((l0 ++ lanes) ++ slices) ++ marks) ++ ticks) ++ locks) ++ mutexes) ++ turns) in
+    on_ok c.put-2.result (λ e. e ∙ (ap (λ (them : List ℕ). them ++ codes "\n]}\n") e7
     ∙ append_assoc old (head ++ events.joined all) (codes "\n]}\n"))) c.put-2.ensures
 
 pub returns-clause-ends : goal.returns-clause-ends
