@@ -2,6 +2,7 @@
 
 ghost use Rattle.std.specs.Prelude.{◌≡◌, Decides, ◌≤◌, All, IfOk, IfSome, replicate, None};
 ghost use Rattle.brd_config.specs.View.{view};
+ghost use Rattle.brd_link.specs.LinkSet.{IsLinkSet};
 ghost use Rattle.brd_kernel.specs.Kernel.{executor_on, line_at, timer_due};
 ghost use Rattle.brd_kernel.specs.Always.{HasContext, HasPlace};
 ghost use Rattle.brd_tasks.specs.Ready.{IsProcessor, IsSetup};
@@ -473,6 +474,13 @@ impl Board {
             return self.links.state(cpu);
         }
         None
+    }
+
+    /// Does nothing; but says that its links are a set, as those of every board are.
+    pub fn links_are_a_set(&self)
+        ensures { IsLinkSet self.now.links }
+    {
+        let _ = self.links.state(1);
     }
 
     /// The last exception on a processor.

@@ -1,4 +1,5 @@
 pub mod TableLemmas
+pub mod RowLemmas
 pub mod ColumnLemmas
 pub mod BitLemmas
 pub mod LawLemmas

@@ -1,4 +1,5 @@
 pub mod Table
+pub mod Rows
 pub mod QueueOrder
 pub mod Semaphores
 pub mod Mutexes

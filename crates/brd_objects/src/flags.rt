@@ -32,6 +32,7 @@ impl Objects<Flag> {
     }
 
     /// Sets bits of a flag. Who is released by it says `next_satisfied`.
+    #[tactic(auto, using(crate::proofs::RowLemmas::at_rows, crate::proofs::RowLemmas::past_rows, crate::proofs::RowLemmas::changed_row, crate::proofs::RowLemmas::changed_none, crate::proofs::RowLemmas::changed_past))]
     pub fn set(&mut self, id: u16, bits: u32)
         ensures { self.new ≡ object_changed (joined bits) self.old id }
     {
@@ -43,6 +44,7 @@ impl Objects<Flag> {
     }
 
     /// Clears all bits of a flag but these.
+    #[tactic(auto, using(crate::proofs::RowLemmas::at_rows, crate::proofs::RowLemmas::past_rows, crate::proofs::RowLemmas::changed_row, crate::proofs::RowLemmas::changed_none, crate::proofs::RowLemmas::changed_past))]
     pub fn clear(&mut self, id: u16, bits: u32)
         ensures { self.new ≡ object_changed (masked bits) self.old id }
     {
@@ -55,6 +57,7 @@ impl Objects<Flag> {
 
     /// The first waiter of a flag that its pattern satisfies leaves, and is answered with the pattern, which is cleared
     /// under TA_CLR.
+    #[tactic(auto, using(crate::proofs::RowLemmas::at_rows, crate::proofs::RowLemmas::past_rows, crate::proofs::RowLemmas::changed_row, crate::proofs::RowLemmas::changed_none, crate::proofs::RowLemmas::changed_past))]
     pub fn next_satisfied(&mut self, id: u16) -> Option<(u16, u32)>
         ensures is { self.new ≡ object_changed with_next_released self.old id }
         ensures who { result ≡ next_released_in (object_at self.old id) }
@@ -70,6 +73,7 @@ impl Objects<Flag> {
     }
 
     /// A wait that the pattern satisfies at once is answered with it, and it is cleared under TA_CLR.
+    #[tactic(auto, using(crate::proofs::RowLemmas::at_rows, crate::proofs::RowLemmas::past_rows, crate::proofs::RowLemmas::changed_row, crate::proofs::RowLemmas::changed_none, crate::proofs::RowLemmas::changed_past))]
     pub fn take(&mut self, id: u16, want: Want) -> Option<u32>
         ensures is { self.new ≡ object_changed (taken_for want) self.old id }
         ensures pattern { result ≡ pattern_for_in want (object_at self.old id) }
@@ -83,6 +87,7 @@ impl Objects<Flag> {
     }
 
     /// A task waits for bits of a flag, in the order that its attributes say.
+    #[tactic(auto, using(crate::proofs::RowLemmas::at_rows, crate::proofs::RowLemmas::past_rows, crate::proofs::RowLemmas::changed_row, crate::proofs::RowLemmas::changed_none, crate::proofs::RowLemmas::changed_past))]
     pub fn wait(&mut self, id: u16, task: u16, priority: u8, want: Want)
         requires small { task < 256 }
         requires bits { want.bits ≢ 0 }

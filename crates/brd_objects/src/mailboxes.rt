@@ -31,6 +31,7 @@ impl Objects<Mailbox> {
     }
 
     /// A message is sent: to the first waiter, which no longer waits, else it is kept, where there is room.
+    #[tactic(auto, using(crate::proofs::RowLemmas::at_rows, crate::proofs::RowLemmas::past_rows, crate::proofs::RowLemmas::changed_row, crate::proofs::RowLemmas::changed_none, crate::proofs::RowLemmas::changed_past))]
     pub fn send(&mut self, id: u16, message: Message) -> Sent
         ensures is { self.new ≡ object_changed (message_sent message) self.old id }
         ensures outcome { result ≡ message_outcome_in (object_at self.old id) }
@@ -45,6 +46,7 @@ impl Objects<Mailbox> {
     }
 
     /// The first message is received: its address.
+    #[tactic(auto, using(crate::proofs::RowLemmas::at_rows, crate::proofs::RowLemmas::past_rows, crate::proofs::RowLemmas::changed_row, crate::proofs::RowLemmas::changed_none, crate::proofs::RowLemmas::changed_past))]
     pub fn receive(&mut self, id: u16) -> Option<u32>
         ensures is { self.new ≡ object_changed message_received self.old id }
         ensures message { result ≡ next_message_in (object_at self.old id) }
@@ -58,6 +60,7 @@ impl Objects<Mailbox> {
     }
 
     /// A task waits for a message, in the order that the attributes say.
+    #[tactic(auto, using(crate::proofs::RowLemmas::at_rows, crate::proofs::RowLemmas::past_rows, crate::proofs::RowLemmas::changed_row, crate::proofs::RowLemmas::changed_none, crate::proofs::RowLemmas::changed_past))]
     pub fn wait(&mut self, id: u16, task: u16, priority: u8)
         requires { task < 256 }
         ensures { self.new ≡ object_changed (mailbox_awaited task priority) self.old id }

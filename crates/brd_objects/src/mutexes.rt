@@ -22,6 +22,7 @@ impl Objects<Mutex> {
     }
 
     /// A task takes a mutex.
+    #[tactic(auto, using(crate::proofs::RowLemmas::at_rows, crate::proofs::RowLemmas::past_rows, crate::proofs::RowLemmas::changed_row, crate::proofs::RowLemmas::changed_none, crate::proofs::RowLemmas::changed_past))]
     pub fn take(&mut self, id: u16, task: u16)
         ensures { self.new ≡ object_changed (owned task) self.old id }
     {
@@ -33,6 +34,7 @@ impl Objects<Mutex> {
     }
 
     /// A mutex is given back: the first waiter leaves with it, and is answered; else nobody has it.
+    #[tactic(auto, using(crate::proofs::RowLemmas::at_rows, crate::proofs::RowLemmas::past_rows, crate::proofs::RowLemmas::changed_row, crate::proofs::RowLemmas::changed_none, crate::proofs::RowLemmas::changed_past))]
     pub fn give(&mut self, id: u16) -> Option<u16>
         ensures is { self.new ≡ object_changed given self.old id }
         ensures who { result ≡ next_owner_in (object_at self.old id) }
@@ -47,6 +49,7 @@ impl Objects<Mutex> {
     }
 
     /// A task waits for a mutex, in the order that its attribute says.
+    #[tactic(auto, using(crate::proofs::RowLemmas::at_rows, crate::proofs::RowLemmas::past_rows, crate::proofs::RowLemmas::changed_row, crate::proofs::RowLemmas::changed_none, crate::proofs::RowLemmas::changed_past))]
     pub fn wait(&mut self, id: u16, task: u16, priority: u8)
         requires { task < 256 }
         ensures { self.new ≡ object_changed (mutex_awaited task priority) self.old id }

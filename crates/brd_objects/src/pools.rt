@@ -22,6 +22,7 @@ impl Objects<Pool> {
     }
 
     /// The block of a pool with the lowest address that is there is handed out: its address.
+    #[tactic(auto, using(crate::proofs::RowLemmas::at_rows, crate::proofs::RowLemmas::past_rows, crate::proofs::RowLemmas::changed_row, crate::proofs::RowLemmas::changed_none, crate::proofs::RowLemmas::changed_past))]
     pub fn get(&mut self, id: u16) -> Option<u32>
         ensures is { self.new ≡ object_changed handed_out self.old id }
         ensures block { result ≡ block_for_in (object_at self.old id) }
@@ -36,6 +37,7 @@ impl Objects<Pool> {
 
     /// A block of a pool comes back: the first waiter leaves with it, and is answered; else it is there again. What is
     /// no block of the pool that is out changes nothing.
+    #[tactic(auto, using(crate::proofs::RowLemmas::at_rows, crate::proofs::RowLemmas::past_rows, crate::proofs::RowLemmas::changed_row, crate::proofs::RowLemmas::changed_none, crate::proofs::RowLemmas::changed_past))]
     pub fn give(&mut self, id: u16, address: u32) -> Option<u16>
         ensures is { self.new ≡ object_changed (given_back address) self.old id }
         ensures who { result ≡ next_holder_in address (object_at self.old id) }
@@ -50,6 +52,7 @@ impl Objects<Pool> {
     }
 
     /// A task waits for a block of a pool, in the order that its attributes say.
+    #[tactic(auto, using(crate::proofs::RowLemmas::at_rows, crate::proofs::RowLemmas::past_rows, crate::proofs::RowLemmas::changed_row, crate::proofs::RowLemmas::changed_none, crate::proofs::RowLemmas::changed_past))]
     pub fn wait(&mut self, id: u16, task: u16, priority: u8)
         requires { task < 256 }
         ensures { self.new ≡ object_changed (pool_awaited task priority) self.old id }

@@ -34,6 +34,7 @@ impl Objects<DataQueue> {
     }
 
     /// A datum is sent: to the first receiver, which no longer waits, else it is stored, where there is room.
+    #[tactic(auto, using(crate::proofs::RowLemmas::at_rows, crate::proofs::RowLemmas::past_rows, crate::proofs::RowLemmas::changed_row, crate::proofs::RowLemmas::changed_none, crate::proofs::RowLemmas::changed_past))]
     pub fn send(&mut self, id: u16, datum: u32) -> Sent
         ensures is { self.new ≡ object_changed (sent datum) self.old id }
         ensures outcome { result ≡ outcome_in (object_at self.old id) }
@@ -49,6 +50,7 @@ impl Objects<DataQueue> {
 
     /// A datum is sent: to the first receiver, which no longer waits, else it is stored, and a full queue gives its
     /// oldest datum up for it.
+    #[tactic(auto, using(crate::proofs::RowLemmas::at_rows, crate::proofs::RowLemmas::past_rows, crate::proofs::RowLemmas::changed_row, crate::proofs::RowLemmas::changed_none, crate::proofs::RowLemmas::changed_past))]
     pub fn force(&mut self, id: u16, datum: u32) -> Sent
         ensures is { self.new ≡ object_changed (forced datum) self.old id }
         ensures outcome { result ≡ forced_outcome_in (object_at self.old id) }
@@ -64,6 +66,7 @@ impl Objects<DataQueue> {
 
     /// The oldest datum is received, and the first sender's takes the free place; where none is stored, the first
     /// sender's is received.
+    #[tactic(auto, using(crate::proofs::RowLemmas::at_rows, crate::proofs::RowLemmas::past_rows, crate::proofs::RowLemmas::changed_row, crate::proofs::RowLemmas::changed_none, crate::proofs::RowLemmas::changed_past))]
     pub fn receive(&mut self, id: u16) -> Option<Received>
         ensures is { self.new ≡ object_changed received self.old id }
         ensures receipt { result ≡ receipt_in (object_at self.old id) }
@@ -78,6 +81,7 @@ impl Objects<DataQueue> {
     }
 
     /// A task waits to send a datum, in the order that the attributes say.
+    #[tactic(auto, using(crate::proofs::RowLemmas::at_rows, crate::proofs::RowLemmas::past_rows, crate::proofs::RowLemmas::changed_row, crate::proofs::RowLemmas::changed_none, crate::proofs::RowLemmas::changed_past))]
     pub fn wait_to_send(&mut self, id: u16, task: u16, priority: u8, datum: u32)
         requires { task < 256 }
         ensures { self.new ≡ object_changed (awaited_by_sender task priority datum) self.old id }
@@ -90,6 +94,7 @@ impl Objects<DataQueue> {
     }
 
     /// A task waits to receive a datum, after all others.
+    #[tactic(auto, using(crate::proofs::RowLemmas::at_rows, crate::proofs::RowLemmas::past_rows, crate::proofs::RowLemmas::changed_row, crate::proofs::RowLemmas::changed_none, crate::proofs::RowLemmas::changed_past))]
     pub fn wait_to_receive(&mut self, id: u16, task: u16, priority: u8)
         requires { task < 256 }
         ensures { self.new ≡ object_changed (awaited_by_receiver task priority) self.old id }

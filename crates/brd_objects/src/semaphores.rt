@@ -29,6 +29,7 @@ impl Objects<Semaphore> {
 
     /// Returns one to a semaphore: the first waiter leaves with it, and is answered; where nobody waits it is counted,
     /// up to the maximum.
+    #[tactic(auto, using(crate::proofs::RowLemmas::at_rows, crate::proofs::RowLemmas::past_rows, crate::proofs::RowLemmas::changed_row, crate::proofs::RowLemmas::changed_none, crate::proofs::RowLemmas::changed_past))]
     pub fn signal(&mut self, id: u16) -> Option<u16>
         ensures is { self.new ≡ object_changed returned self.old id }
         ensures who { result ≡ first_waiter_in (object_at self.old id) }
@@ -43,6 +44,7 @@ impl Objects<Semaphore> {
     }
 
     /// Takes one from a semaphore. Answers whether there was one.
+    #[tactic(auto, using(crate::proofs::RowLemmas::at_rows, crate::proofs::RowLemmas::past_rows, crate::proofs::RowLemmas::changed_row, crate::proofs::RowLemmas::changed_none, crate::proofs::RowLemmas::changed_past))]
     pub fn take(&mut self, id: u16) -> bool
         ensures is { self.new ≡ object_changed taken self.old id }
         ensures there { result ≡ has_one_in (object_at self.old id) }
@@ -56,6 +58,7 @@ impl Objects<Semaphore> {
     }
 
     /// A task waits for one of a semaphore, in the order that its attributes say.
+    #[tactic(auto, using(crate::proofs::RowLemmas::at_rows, crate::proofs::RowLemmas::past_rows, crate::proofs::RowLemmas::changed_row, crate::proofs::RowLemmas::changed_none, crate::proofs::RowLemmas::changed_past))]
     pub fn wait(&mut self, id: u16, task: u16, priority: u8)
         requires { task < 256 }
         ensures { self.new ≡ object_changed (semaphore_awaited task priority) self.old id }

@@ -15,15 +15,16 @@ pub struct SavedObjects<T: Object> {
 }
 
 impl<T: Object> Model for SavedObjects<T> {
-    ghost use Rattle.std.specs.Prelude.{◌≡◌, length, map};
+    ghost use Rattle.std.specs.Prelude.{◌≤◌, length, map};
     ghost use Rattle.std.specs.Option.{option_map};
+    ghost use Rattle.brd_objects.specs.Rows.{table_of};
     ghost use Rattle.brd_objects.specs.Table.{Table};
 
     ghost Value = { Table T };
 
-    ghost view = { λ saved. map (option_map T.restored) saved.rows.items };
+    ghost view = { λ saved. table_of (map (option_map T.restored) saved.rows.items) };
 
-    ghost invariant = { λ saved. length saved.rows.items ≡ 256 };
+    ghost invariant = { λ saved. length saved.rows.items ≤ 256 };
 }
 
 impl<T: Object> Objects<T> {

@@ -1,12 +1,11 @@
-use Rattle.std.proofs.Common.{sym, ap, ◌∙◌, Some, arith}
-use Rattle.std.specs.Option.{option_map}
-use Rattle.brd_objects.proofs.ChangeLemmas.{changed_goes_on, none_stays}
+use Rattle.std.proofs.Common.{sym, ap, ◌∙◌}
+use Rattle.brd_objects.specs.Rows.{table_of}
+use Rattle.brd_objects.specs.Table.{objects_changed}
+use Rattle.brd_objects.proofs.RowLemmas.{changed_rows}
 use Rattle.brd_objects.proofs.objects.Objects.reorder.Goals as goal
-use Rattle.brd_objects.proofs.objects.Objects.reorder.Goals.{in-Some, in_default}
 
-pub loop-row-preserved : goal.loop-row-preserved
-loop-row-preserved g c =
-    elim c.match-row.branch [
-      | in-Some w ↦ changed_goes_on (g.T.Object.reordered c.args.task c.args.priority) _ c.loop-row.row-items c.match-row.row-items c.loop-row.row-index c.row-item.result _ (omega (arith, c.loop-row-test.true, c.loop-row.auto.row-items)) w.row-items-is (ap (λ x. Some x) w.reorder.ensures ∙ sym (ap (option_map (g.T.Object.reordered c.args.task c.args.priority)) w.in-Some.is)) c.loop-row.invariant
-      | in_default w ↦ changed_goes_on (g.T.Object.reordered c.args.task c.args.priority) _ c.loop-row.row-items c.match-row.row-items c.loop-row.row-index c.row-item.result _ (omega (arith, c.loop-row-test.true, c.loop-row.auto.row-items)) w.row-items-is (none_stays (g.T.Object.reordered c.args.task c.args.priority) _ w.in_default.is) c.loop-row.invariant
-    ]
+pub returns : goal.returns
+returns g c =
+    ap table_of (c.reorder_each.ensures ∙ ap (objects_changed (g.T.Object.reordered c.args.task c.args.priority)) c.as_mut_slice.ensures.value)
+    ∙ sym (changed_rows (g.T.Object.reordered c.args.task c.args.priority) c.self.inside.rows.items)
+    ∙ ap (objects_changed (g.T.Object.reordered c.args.task c.args.priority)) c.self.view_is

@@ -1,7 +1,0 @@
--- In each object that was passed the task has the priority.
-use Rattle.std.proofs.Common.{◌≡◌, ◌++◌, take, drop}
-use Rattle.brd_objects.specs.Table.{objects_changed}
-use Rattle.brd_objects.proofs.objects.Objects.reorder.Given as goal
-
-abbrev pub invariant-loop-row : goal.invariant-loop-row
-invariant-loop-row g l = objects_changed (g.T.Object.reordered l.task l.priority) l.fn.self ≡ take l.row-index l.row-items ++ objects_changed (g.T.Object.reordered l.task l.priority) (drop l.row-index l.row-items)

@@ -1,0 +1,7 @@
+-- In each object that was passed the task has the priority.
+use Rattle.std.proofs.Common.{◌≡◌, ◌++◌, take, drop}
+use Rattle.brd_objects.specs.Table.{objects_changed}
+use Rattle.brd_objects.proofs.objects.reorder_each.Given as goal
+
+abbrev pub invariant-loop-row : goal.invariant-loop-row
+invariant-loop-row g l = objects_changed (g.T.Object.reordered l.task l.priority) l.fn.rows ≡ take l.row-index l.rows ++ objects_changed (g.T.Object.reordered l.task l.priority) (drop l.row-index l.rows)
