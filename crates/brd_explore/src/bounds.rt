@@ -25,7 +25,7 @@ pub struct Bounds {
 impl Bounds {
     /// Whether an event may come next: something is left for it. A step of another processor than `last` preempts it.
     #[tactic(auto, unfolding(crate::specs::Schedules::affords))]
-    pub(crate) fn affords(&self, last: Option<u8>, event: Event) -> bool
+    pub fn affords(&self, last: Option<u8>, event: Event) -> bool
         ensures { result ≡ affords self.now last event }
     {
         if self.events == 0 {
@@ -40,7 +40,7 @@ impl Bounds {
 
     /// What is left after an event for which something was left.
     #[tactic(auto, unfolding(crate::specs::Schedules::spent))]
-    pub(crate) fn spent(&self, last: Option<u8>, event: Event) -> Bounds
+    pub fn spent(&self, last: Option<u8>, event: Event) -> Bounds
         ensures { result ≡ spent self.now last event }
     {
         let events = self.events.saturating_sub(1);
@@ -94,7 +94,7 @@ pub(crate) fn is_last(last: Option<u8>, cpu: u8) -> bool
 }
 
 /// Which processor a step of another one would preempt, after an event that has led to a board.
-pub(crate) fn stepper(board: &Board, last: Option<u8>, event: Event) -> Option<u8>
+pub fn stepper(board: &Board, last: Option<u8>, event: Event) -> Option<u8>
     ensures { result ≡ stepper board.now last event }
 {
     match event {

@@ -11,9 +11,9 @@ mod shard;
 mod shrinking;
 mod wanted;
 
-pub use bounds::{Bounds, did_nothing};
+pub use bounds::{Bounds, did_nothing, stepper};
 pub use condition::{Comparison, Condition, Term};
 pub use search::{Counts, Found, Halt, Nobody, Watch, find};
 pub use shard::{Shard, find_in_shard};
 pub use shrinking::{fails, shrink};
-pub use wanted::{Failure, Wanted, is_at_rest, is_end, some_are_due};
+pub use wanted::{Failure, Wanted, is_at_rest, is_cut, is_end, some_are_due};

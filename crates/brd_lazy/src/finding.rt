@@ -6,13 +6,12 @@ ghost use Rattle.brd_explore.specs.Searching.{HaltsSo, IsFound};
 ghost use Rattle.brd_lazy.specs.Finding.{FoundSo, IsMore, RoundSo};
 ghost use Rattle.brd_reach.specs.Rounds.{sharing_for};
 
-use crate::bounds::{affords, spent, stepper};
 use crate::spots::Spots;
 use crate::visit::{Tried, visit};
 use brd_base::NoMemory;
 use brd_blocks::Sharing;
 use brd_board::{Board, Event};
-use brd_explore::{Bounds, Halt, Wanted, Watch, did_nothing};
+use brd_explore::{Bounds, Halt, Wanted, Watch, did_nothing, stepper};
 use brd_reach::{Unknown, guarded, learn, owned_words, ram_len};
 use std::alloc::Global;
 
@@ -178,10 +177,10 @@ fn is_found(
     let mut left = bounds;
     let mut last = None;
     for event in events {
-        if !is_among(among, *event) || !affords(left, last, *event) {
+        if !is_among(among, *event) || !left.affords(last, *event) {
             return Ok(false);
         }
-        let rest = spent(left, last, *event);
+        let rest = left.spent(last, *event);
         if did_nothing(there.event_apart(*event)) {
             return Ok(false);
         }

@@ -6,7 +6,6 @@
 #![tactic(auto)]
 
 mod block;
-mod bounds;
 mod finding;
 pub mod laws;
 mod spots;

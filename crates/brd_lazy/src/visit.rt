@@ -10,12 +10,11 @@ ghost use Rattle.brd_lazy.specs.Finding.{IsKnown, IsMore, TriedSo, VisitedSo};
 ghost use Rattle.brd_reach.specs.Rounds.{sharing_for};
 
 use crate::block::{Block, go};
-use crate::bounds::{affords, spent, stepper};
 use crate::spots::{Margin, Spots};
 use brd_base::NoMemory;
 use brd_blocks::{Sharing, stands_well};
 use brd_board::{Board, Event};
-use brd_explore::{Bounds, Wanted, did_nothing, is_end};
+use brd_explore::{Bounds, Wanted, did_nothing, is_cut, is_end, stepper};
 use brd_reach::{Unknown, memory_of};
 
 /// What was tried at a place came to.
@@ -56,7 +55,7 @@ pub(crate) fn visit(
     }
     *ends = with_one(*ends, is_end(&board, margin.left)?);
     for event in among {
-        if !affords(margin.left, margin.last, *event) {
+        if !margin.left.affords(margin.last, *event) {
             continue;
         }
         match try_event(spots, at, &board, margin, sharing, words, wanted, *event)? {
@@ -188,7 +187,7 @@ fn note_one(
         board.now ≡ (happens p.board event).board → OnOk result (IsKnown spots.new (next p event)) }
 {
     let rest = Margin {
-        left: spent(margin.left, margin.last, event),
+        left: margin.left.spent(margin.last, event),
         last: stepper(board, margin.last, event),
     };
     let mark = spots.mark_of(board, rest, memory_of(board, words));
@@ -213,7 +212,7 @@ fn note_block(
         board.now ≡ after_steps p.board cpu (suc count) → OnOk result (IsKnown spots.new (end_of p cpu count)) }
 {
     let event = Event::Step(cpu);
-    let one = spent(margin.left, margin.last, event);
+    let one = margin.left.spent(margin.last, event);
     let rest = Margin {
         left: Bounds {
             events: margin.left.events - count - 1,
