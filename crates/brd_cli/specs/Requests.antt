@@ -155,6 +155,7 @@ AreSearchOptions rows options = AreSizes rows options.sizes
     × IsFlag (one_of (codes "livelock") rows) options.livelock
     × IsFlag (one_of (codes "finals") rows) options.finals
     × IsNumberOr 0 (one_of (codes "MOST") rows) options.lazy
+    × IsNumberOr 512 (one_of (codes "MEMORY") rows) options.memory
 
 -- the request of `explore`
 abbrev pub IsExplore : List Row → Option Request → Type 0

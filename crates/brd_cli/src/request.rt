@@ -303,6 +303,7 @@ fn search_options_of<'a>(arguments: &ArgMatches<'a>) -> SearchOptions<'a>
         livelock: flag_of(arguments, "livelock"),
         finals: flag_of(arguments, "finals"),
         lazy: number_or(arguments, "MOST", 0),
+        memory: number_or(arguments, "MEMORY", USUAL_MEMORY),
     }
 }
 
@@ -311,6 +312,9 @@ const USUAL_EVENTS: u32 = 1_000;
 
 /// How many preemptions, likewise (own choice).
 const USUAL_PREEMPTIONS: u32 = 1;
+
+/// How many MiB of places a search remembers at most, unless it is said (own choice).
+const USUAL_MEMORY: u32 = 512;
 
 /// How large the search of `explore` is.
 fn sizes_of(arguments: &ArgMatches) -> Sizes

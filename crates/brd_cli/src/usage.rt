@@ -121,7 +121,9 @@ and so on. A schedule is a list of events. A preemption is a step that leaves an
 could go on. Unless it is said what fails, an exception or a deadlock does. If a schedule fails, it
 is told, OUT gets its journal, and the status is 5; if none does, that is told, and it is 0.
 With --places there is no bound on events and preemptions: all schedules are searched.
-With --lazy far fewer schedules are searched within the bounds; what is told is of all of them.
+Orders that nobody can tell from each other are searched once, and places are remembered. With --fair,
+--remember, --shard, --threads, --memory 0, or if --memory doesn't suffice, schedules are searched one
+by one. What is told is of all schedules in any case.
 
 Example, from the top of the repository:
   board asm examples/lost_update/racy.s build/racy.elf
@@ -599,6 +601,12 @@ fn with_search<'a>(alloc: Global, command: Command<'a>) -> Result<Command<'a>, N
             "MOST",
             "lazy",
             "Searches the lazy schedules alone; goes through so many places at most",
+        ))?
+        .arg(count(
+            alloc,
+            "MEMORY",
+            "memory",
+            "How many MiB of places are remembered, 512 if left out; 0: schedules are searched one by one",
         ))?
         .arg(option(
             alloc,

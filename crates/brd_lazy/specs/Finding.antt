@@ -112,9 +112,8 @@ abbrev pub RoundSo : Sharing → List Event → Wanted → List Place → Round 
 RoundSo by among wanted spots round.Holds = AreDone by among wanted spots (length spots)
 RoundSo by among wanted spots _ = Unit {0}
 
--- What a lazy search answers is so: the schedule is one that was found, or no schedule within the bounds fails. (The
--- links of a board are a set, as those of every board are.)
+-- What a lazy search answers is so: the schedule is one that was found, or no schedule within the bounds fails.
 abbrev pub FoundSo : Wanted → List Event → Place → Lazily → Type 0
 FoundSo wanted among from (lazily.Found events) = IsFound wanted among from events.items
-FoundSo wanted among from (lazily.NoneFails gone) = IsLinkSet from.board.links → NoneFails wanted among from
+FoundSo wanted among from (lazily.NoneFails gone) = NoneFails wanted among from
 FoundSo wanted among from (lazily.Unknown why) = Unit {0}

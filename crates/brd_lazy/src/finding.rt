@@ -7,6 +7,7 @@ ghost use Rattle.brd_lazy.specs.Finding.{FoundSo, IsMore, RoundSo};
 ghost use Rattle.brd_reach.specs.Rounds.{sharing_for};
 
 use crate::spots::Spots;
+use crate::stops::Stops;
 use crate::visit::{Tried, visit};
 use brd_base::NoMemory;
 use brd_blocks::Sharing;
@@ -20,8 +21,8 @@ use std::alloc::Global;
 pub struct Gone {
     /// Through how many.
     pub places: usize,
-    /// How many of them are ends.
-    pub ends: usize,
+    /// At how many of them schedules stop, and why.
+    pub stops: Stops,
     /// How many preemptions were left at each. If any were, the bound on them has left nothing out.
     pub spare: u32,
 }
@@ -71,15 +72,16 @@ pub fn find_lazily<W: Watch>(
     if wanted.rounds != 0 {
         return Ok(Lazily::Unknown(Unknown::Fair));
     }
+    board.links_are_a_set();
     let size = ram_len(board);
     let mut sharing = guarded(alloc, size, wanted)?;
     for _ in 0..MOST_ROUNDS {
         let words = owned_words(alloc, &sharing, size)?;
         let mut spots = Spots::new(alloc, board, bounds)?;
-        let mut ends = 0usize;
+        let mut stops = Stops::none();
         match visit_all(
             &mut spots,
-            &mut ends,
+            &mut stops,
             &sharing,
             words.as_slice(),
             among,
@@ -87,7 +89,7 @@ pub fn find_lazily<W: Watch>(
             most,
             watch,
         )? {
-            Round::Holds => return Ok(Lazily::NoneFails(how_far(&spots, ends))),
+            Round::Holds => return Ok(Lazily::NoneFails(how_far(&spots, stops))),
             Round::Fails(at) => return Ok(found(alloc, board, bounds, among, wanted, &spots, at)?),
             Round::Strays(at, cpu, count) => {
                 let place = spots.board(at)?;
@@ -100,10 +102,10 @@ pub fn find_lazily<W: Watch>(
 }
 
 /// Through how many places a search went, and what was left there.
-fn how_far(spots: &Spots, ends: usize) -> Gone {
+fn how_far(spots: &Spots, stops: Stops) -> Gone {
     Gone {
         places: spots.len(),
-        ends,
+        stops,
         spare: spots.spare(),
     }
 }
@@ -111,7 +113,7 @@ fn how_far(spots: &Spots, ends: usize) -> Gone {
 /// Visits places, and those to which events lead from them, until all have been visited or one fails; at most so many.
 fn visit_all<W: Watch>(
     spots: &mut Spots,
-    ends: &mut usize,
+    stops: &mut Stops,
     sharing: &Sharing,
     words: &[u32],
     among: &[Event],
@@ -130,7 +132,7 @@ fn visit_all<W: Watch>(
         if !watch.tried(at as u64) {
             return Err(Halt::Stopped);
         }
-        match visit(spots, ends, at, sharing, words, among, wanted)? {
+        match visit(spots, stops, at, sharing, words, among, wanted)? {
             Tried::Done => {}
             Tried::Fails => return Ok(Round::Fails(at)),
             Tried::Strays(cpu, count) => return Ok(Round::Strays(at, cpu, count)),

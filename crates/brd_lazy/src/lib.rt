@@ -9,6 +9,8 @@ mod block;
 mod finding;
 pub mod laws;
 mod spots;
+mod stops;
 mod visit;
 
 pub use finding::{Gone, Lazily, find_lazily};
+pub use stops::Stops;

@@ -11,10 +11,11 @@ ghost use Rattle.brd_reach.specs.Rounds.{sharing_for};
 
 use crate::block::{Block, go};
 use crate::spots::{Margin, Spots};
+use crate::stops::Stops;
 use brd_base::NoMemory;
 use brd_blocks::{Sharing, stands_well};
 use brd_board::{Board, Event};
-use brd_explore::{Bounds, Wanted, did_nothing, is_cut, is_end, stepper};
+use brd_explore::{Bounds, Wanted, did_nothing, stepper};
 use brd_reach::{Unknown, memory_of};
 
 /// What was tried at a place came to.
@@ -31,10 +32,10 @@ pub(crate) enum Tried {
 }
 
 /// Visits the place of an index: looks whether it fails, and tries all events that may come there. `words` are the
-/// addresses of the words by whose values places are told from each other at first sight. Ends are counted.
+/// addresses of the words by whose values places are told from each other at first sight. Where schedules stop is counted.
 pub(crate) fn visit(
     spots: &mut Spots,
-    ends: &mut usize,
+    stops: &mut Stops,
     at: usize,
     sharing: &Sharing,
     words: &[u32],
@@ -53,12 +54,14 @@ pub(crate) fn visit(
     if wanted.fails_at(&board, margin.left)? {
         return Ok(Tried::Fails);
     }
-    *ends = with_one(*ends, is_end(&board, margin.left)?);
+    stops.come(&board, margin.left)?;
     for event in among {
         if !margin.left.affords(margin.last, *event) {
             continue;
         }
-        match try_event(spots, at, &board, margin, sharing, words, wanted, *event)? {
+        match try_event(
+            spots, stops, at, &board, margin, sharing, words, wanted, *event,
+        )? {
             Tried::Done => {}
             Tried::Fails => return Ok(Tried::Fails),
             Tried::Strays(cpu, count) => return Ok(Tried::Strays(cpu, count)),
@@ -68,14 +71,10 @@ pub(crate) fn visit(
     Ok(Tried::Done)
 }
 
-/// So many ends, and one more, if there is one.
-fn with_one(ends: usize, one: bool) -> usize {
-    ends.saturating_add(usize::from(one))
-}
-
 /// Tries an event at the place of an index, for which something is left there.
 fn try_event(
     spots: &mut Spots,
+    stops: &mut Stops,
     at: usize,
     board: &Board,
     margin: Margin,
@@ -90,7 +89,7 @@ fn try_event(
         (TriedSo (sharing_for sharing.now wanted.now) spots.new (spot_of board.now margin) event) }
 {
     match event {
-        Event::Step(cpu) => try_step(spots, at, board, margin, sharing, words, wanted, cpu),
+        Event::Step(cpu) => try_step(spots, stops, at, board, margin, sharing, words, wanted, cpu),
         Event::Tick => {
             try_other(spots, at, board, margin, words, event)?;
             Ok(Tried::Done)
@@ -105,6 +104,7 @@ fn try_event(
 /// Tries a block of a processor.
 fn try_step(
     spots: &mut Spots,
+    stops: &mut Stops,
     at: usize,
     board: &Board,
     margin: Margin,
@@ -137,7 +137,10 @@ fn try_step(
             note_block(spots, at, margin, words, cpu, count, &last)?;
             Ok(Tried::Done)
         }
-        Block::Cut => Ok(Tried::Done),
+        Block::Cut => {
+            stops.cut();
+            Ok(Tried::Done)
+        }
         Block::Strays(count) => Ok(Tried::Strays(cpu, count)),
         Block::Unknown => Ok(Tried::Unknown(Unknown::Waits)),
     }

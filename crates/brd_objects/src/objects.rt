@@ -82,7 +82,7 @@ impl<T: Object> Objects<T> {
     pub fn leave(&mut self, task: u16)
         ensures { self.new ≡ objects_changed (T.left task) self.old }
     {
-        leave_each(self.rows.as_mut_slice(), task);
+        leave_each(&mut self.rows, task);
     }
 
     /// A task, where it waits, is given a priority: by arrival it keeps its place, by priority it comes after its
@@ -91,13 +91,13 @@ impl<T: Object> Objects<T> {
     pub fn reorder(&mut self, task: u16, priority: u8)
         ensures { self.new ≡ objects_changed (T.reordered task priority) self.old }
     {
-        reorder_each(self.rows.as_mut_slice(), task, priority);
+        reorder_each(&mut self.rows, task, priority);
     }
 }
 
 /// A task no longer waits for any of these objects.
-fn leave_each<T: Object>(rows: &mut [Option<T>], task: u16)
-    ensures { rows.new ≡ objects_changed (T.left task) rows.old }
+fn leave_each<T: Object>(rows: &mut Vec<Option<T>>, task: u16)
+    ensures { rows.new.items ≡ objects_changed (T.left task) rows.old.items }
 {
     for row in rows.iter_mut() {
         if let Some(object) = row {
@@ -107,8 +107,8 @@ fn leave_each<T: Object>(rows: &mut [Option<T>], task: u16)
 }
 
 /// A task, where it waits for one of these objects, is given a priority.
-fn reorder_each<T: Object>(rows: &mut [Option<T>], task: u16, priority: u8)
-    ensures { rows.new ≡ objects_changed (T.reordered task priority) rows.old }
+fn reorder_each<T: Object>(rows: &mut Vec<Option<T>>, task: u16, priority: u8)
+    ensures { rows.new.items ≡ objects_changed (T.reordered task priority) rows.old.items }
 {
     for row in rows.iter_mut() {
         if let Some(object) = row {

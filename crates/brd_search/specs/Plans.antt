@@ -417,6 +417,10 @@ is_simple options =
 abbrev pub lazy_fits : SearchOptions → Bool
 lazy_fits options = options.lazy == 0 || is_simple options
 
+-- how many MiB of places are remembered by a search that may go by the lazy schedules, and then by all
+abbrev pub memory_of : SearchOptions → ℕ
+memory_of options = if options.lazy == 0 && is_simple options then options.memory else 0
+
 -- A plan is what options ask for, on a board of so many processors whose image has these symbols. Each line that may be
 -- raised has a handler there, and is named once.
 pub record IsPlan (options : SearchOptions) (b : BoardState) (cpus : ℕ) (symbols : List Symbol) (plan : Plan) : Type 0
@@ -440,6 +444,7 @@ pub record IsPlan (options : SearchOptions) (b : BoardState) (cpus : ℕ) (symbo
     pub livelock : plan.livelock ≡ options.livelock
     pub finals : plan.finals ≡ options.finals
     pub lazy : plan.lazy ≡ options.lazy
+    pub memory : plan.memory ≡ memory_of options
     pub plain : places_fit options ≡ true
     pub timely : time_fits options ≡ true
     pub simple : lazy_fits options ≡ true

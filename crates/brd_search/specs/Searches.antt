@@ -1,6 +1,5 @@
 -- What a search answers.
 use Rattle.std.specs.Prelude.{◌≡◌, ◌⊎◌, ℕ, ◌-◌, ◌≤◌, ◌<◌, min, Bool, true, List, length, Option, Some, None}
-use Rattle.brd_link.specs.LinkSet.{IsLinkSet}
 use Rattle.brd_board.specs.declared.event.Event.{Event}
 use Rattle.brd_board.specs.Board.{BoardState}
 use Rattle.brd_explore.specs.declared.bounds.Bounds.{Bounds}
@@ -20,11 +19,9 @@ pub record AreNotMore (few many : Bounds) : Type 0 where
   pub raises : few.raises ≡ many.raises
   pub owed : few.owed ≡ many.owed
 
--- No schedule of the plan's shard within bounds fails. (By lazy schedules alone that is known of a board whose links
--- are a set, as those of every board are.)
+-- no schedule of the plan's shard within bounds fails
 abbrev pub NoneWithin : Plan → BoardState → Bounds → Type 0
-NoneWithin plan b bounds =
-    (0 < plan.lazy → IsLinkSet b.links) → NoneFailsInShard plan.wanted plan.shard plan.among (start b bounds) 0
+NoneWithin plan b bounds = NoneFailsInShard plan.wanted plan.shard plan.among (start b bounds) 0
 
 -- what a search within bounds has answered
 abbrev pub AnswersWithin : Plan → BoardState → Bounds → Option (List Event) → Type 0
@@ -62,6 +59,13 @@ StopsSo plan b may (no_answer.Unknown why) = 0 < plan.lazy
 StopsSo plan b may (no_answer.StoppedAfter preemptions) =
     (may ≡ true) × (preemptions < plan.bounds.preemptions)
     × NoneWithin plan b (record plan.bounds { preemptions = preemptions })
+
+-- why one by lazy schedules has come to none is so: as far as it is known
+abbrev pub StopsLazily : Plan → BoardState → Bool → NoAnswer → Type 0
+StopsLazily plan b may (no_answer.Unknown why) = Unit {0}
+StopsLazily plan b may no_answer.NoMemory = StopsSo plan b may no_answer.NoMemory
+StopsLazily plan b may no_answer.Stopped = StopsSo plan b may no_answer.Stopped
+StopsLazily plan b may (no_answer.StoppedAfter preemptions) = StopsSo plan b may (no_answer.StoppedAfter preemptions)
 
 -- the plan's bounds, with one event fewer than a schedule has that was found, and than the bounds of it
 abbrev pub shorter : Plan → Bounds → List Event → Bounds

@@ -1,7 +1,6 @@
 //! What is true of all searches.
 
 ghost use Rattle.std.specs.Prelude.{◌≡◌, ◌<◌, ℕ, None, Some};
-ghost use Rattle.brd_link.specs.LinkSet.{IsLinkSet};
 ghost use Rattle.brd_board.specs.Board.{BoardState};
 ghost use Rattle.brd_explore.specs.Schedules.{start};
 ghost use Rattle.brd_explore.specs.Searching.{NoneFails};
@@ -14,21 +13,20 @@ ghost use Rattle.brd_search.specs.declared.plan.Plan.{Plan as PlanOf};
 use brd_explore::laws::shards_are_the_whole;
 
 /// Without `--shard` the whole is searched: if no schedule of the plan's shard within bounds fails, none within them
-/// does. (By lazy schedules alone that is known of a board whose links are a set, as those of every board are.)
+/// does.
 pub fn one_shard_is_the_whole()
     ensures { (plan : PlanOf) (b : BoardState) (bounds : BoundsOf) → shard_of None ≡ Some plan.shard →
-        NoneWithin plan b bounds → (0 < plan.lazy → IsLinkSet b.links) →
-        NoneFails plan.wanted plan.among (start b bounds) }
+        NoneWithin plan b bounds → NoneFails plan.wanted plan.among (start b bounds) }
 {
     shards_are_the_whole();
 }
 
 /// The plans of all shards of a number of them are the whole: if no schedule of theirs within bounds fails, none within
-/// them does, in the same sense.
+/// them does.
 pub fn plans_of_all_shards_are_the_whole()
     ensures { (of : ℕ) → 0 < of → (plan : PlanOf) (b : BoardState) (bounds : BoundsOf) →
         ((shard : ShardOf) → shard.of ≡ of → shard.number < of → NoneWithin (record plan { shard = shard }) b bounds) →
-        (0 < plan.lazy → IsLinkSet b.links) → NoneFails plan.wanted plan.among (start b bounds) }
+        NoneFails plan.wanted plan.among (start b bounds) }
 {
     shards_are_the_whole();
 }

@@ -60,6 +60,9 @@ pub struct SearchOptions<'a> {
     pub livelock: bool,
     /// Whether such a search, if none fails, lists the consoles of all ends.
     pub finals: bool,
-    /// Through how many places a search goes at most within bounds, by the lazy schedules alone; 0: by all schedules.
+    /// Through how many places a search goes at most within bounds, by the lazy schedules alone; 0: it isn't said.
     pub lazy: u32,
+    /// If it isn't said: how many MiB of places it remembers at most before it goes on by all schedules; 0: it goes by
+    /// all at once.
+    pub memory: u32,
 }

@@ -4,7 +4,7 @@ ghost use Rattle.std.specs.Prelude.{MatchResult};
 ghost use Rattle.std.specs.Prelude.{◌≡◌, true, false};
 ghost use Rattle.brd_search.specs.Plans.{IsPlan, KeepsFromPlanning, IsSized, IsOfSizes, IsShard, IsNoShard, text_of};
 ghost use Rattle.brd_search.specs.Plans.{DontFit, IsOfEnds, IsOfTime, is_plain, places_fit, time_fits};
-ghost use Rattle.brd_search.specs.Plans.{IsOfLazy, is_simple, lazy_fits};
+ghost use Rattle.brd_search.specs.Plans.{IsOfLazy, is_simple, lazy_fits, memory_of};
 
 use crate::coming::{check_lines, may_come};
 use crate::fault::SearchFault;
@@ -54,8 +54,11 @@ pub struct Plan {
     pub livelock: bool,
     /// Whether such a search, if none fails, lists the consoles of all ends.
     pub finals: bool,
-    /// Through how many places a search goes at most within bounds, by the lazy schedules alone; 0: by all schedules.
+    /// Through how many places a search goes at most within bounds, by the lazy schedules alone; 0: it isn't said.
     pub lazy: u32,
+    /// If it isn't said: how many MiB of places it remembers at most before it goes on by all schedules; 0: it goes by
+    /// all at once.
+    pub memory: u32,
 }
 
 /// Written out, so that a function that lets one go is proved with a call.
@@ -74,6 +77,7 @@ impl Drop for Plan {
             livelock: _,
             finals: _,
             lazy: _,
+            memory: _,
         } = self;
     }
 }
@@ -115,6 +119,7 @@ pub fn plan_of(
         livelock: options.livelock,
         finals: options.finals,
         lazy: options.lazy,
+        memory: memory_of(options),
     })
 }
 
@@ -167,6 +172,17 @@ fn lazy_fits(options: &SearchOptions<'_>) -> bool
     ensures { result ≡ lazy_fits options.now }
 {
     options.lazy == 0 || is_simple(options)
+}
+
+/// How many MiB of places a search remembers that isn't told whether to go by the lazy schedules alone: none if it is to
+/// do what such a search doesn't know.
+fn memory_of(options: &SearchOptions<'_>) -> u32
+    ensures { result ≡ memory_of options.now }
+{
+    if options.lazy == 0 && is_simple(options) {
+        return options.memory;
+    }
+    0
 }
 
 /// Whether options ask for nothing that such a search doesn't know.

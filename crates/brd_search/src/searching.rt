@@ -2,7 +2,7 @@
 
 ghost use Rattle.std.specs.Prelude.{option_map, ◌≡◌, ◌≤◌, ◌<◌, Bool, true, false, IfErr, IfOk, IfSome, IfNone};
 ghost use Rattle.brd_search.specs.Searches.{Answers, AnswersWithin, IsFewer, IsFewest, IsLeast, IsShortest, NoneBelow};
-ghost use Rattle.brd_search.specs.Searches.{StopsSo};
+ghost use Rattle.brd_search.specs.Searches.{StopsLazily, StopsSo};
 ghost use Rattle.brd_search.specs.declared.plan.Plan.{Plan as PlanOf};
 ghost use Rattle.brd_board.specs.Board.{BoardState as BoardOf};
 ghost use Rattle.brd_explore.specs.Searching.{HaltsSo};
@@ -12,7 +12,7 @@ use brd_base::NoMemory;
 use brd_board::{Board, Event};
 use brd_crew::find_by_threads;
 use brd_explore::{Bounds, Counts, Found, Halt, Watch};
-use brd_lazy::{Gone, Lazily, find_lazily};
+use brd_lazy::{Gone, Lazily, Stops, find_lazily};
 use brd_reach::Unknown;
 use std::alloc::Global;
 use std::thread::Threads;
@@ -27,6 +27,8 @@ pub struct Searched {
     /// The schedules that were searched: all of those within the bounds if none was found. By the lazy ones alone the
     /// places.
     pub counts: Counts,
+    /// Whether the lazy ones alone were searched.
+    pub lazily: bool,
 }
 
 /// Why a search has come to no answer.
@@ -97,21 +99,23 @@ fn with_fewest<T: Threads + Sync, W: Watch + Send>(
     ensures fewest { IfOk result
         (λ found. IsFewest plan.now board.now found.bounds (option_map (λ events. events.items) found.schedule)) }
 {
+    let mut lazily = true;
     for preemptions in 0..plan.bounds.preemptions {
         let bounds = Bounds {
             preemptions,
             ..plan.bounds
         };
-        let searched = match within(rt, alloc, board, plan, bounds, watch) {
+        let searched = match within(rt, alloc, board, plan, lazily, bounds, watch) {
             Ok(searched) => searched,
             Err(why) => return Err(no_answer(why, preemptions)),
         };
+        lazily = searched.lazily;
         if searched.schedule.is_some() {
             return Ok(searched);
         }
         // More preemptions make no difference then.
         if searched.counts.spare > 0 {
-            let whole = match within(rt, alloc, board, plan, plan.bounds, watch) {
+            let whole = match within(rt, alloc, board, plan, lazily, plan.bounds, watch) {
                 Ok(whole) => whole,
                 Err(why) => return Err(no_answer(why, preemptions + 1)),
             };
@@ -120,7 +124,7 @@ fn with_fewest<T: Threads + Sync, W: Watch + Send>(
             }
         }
     }
-    match within(rt, alloc, board, plan, plan.bounds, watch) {
+    match within(rt, alloc, board, plan, lazily, plan.bounds, watch) {
         Ok(searched) => Ok(searched),
         Err(halt) => Err(no_answer(halt, plan.bounds.preemptions)),
     }
@@ -137,12 +141,14 @@ fn no_answer(why: NoAnswer, preemptions: u32) -> NoAnswer
     }
 }
 
-/// Searches the schedules within bounds.
+/// Searches the schedules within bounds: the lazy ones alone if that is asked for; or first these, if they may be, and if
+/// it isn't known by them, all.
 fn within<T: Threads + Sync, W: Watch + Send>(
     rt: &T,
     alloc: Global,
     board: &Board,
     plan: &Plan,
+    lazily: bool,
     bounds: Bounds,
     watch: &mut W,
 ) -> Result<Searched, NoAnswer>
@@ -153,10 +159,20 @@ fn within<T: Threads + Sync, W: Watch + Send>(
     ensures stops { IfErr result (StopsSo plan.now board.now W.may_stop) }
 {
     if plan.lazy > 0 {
-        return within_lazily(alloc, board, plan, bounds, watch);
+        return within_lazily(alloc, board, plan, plan.lazy as usize, bounds, watch);
     }
-    within_all(rt, alloc, board, plan, bounds, watch)
+    if !lazily || plan.memory == 0 {
+        return within_all(rt, alloc, board, plan, bounds, watch);
+    }
+    let most = plan.memory as usize * PLACES;
+    match within_lazily(alloc, board, plan, most, bounds, watch) {
+        Err(NoAnswer::Unknown(_)) => within_all(rt, alloc, board, plan, bounds, watch),
+        searched => searched,
+    }
 }
+
+/// How many places of a search by lazy schedules a MiB holds, about (own choice): most have some tens of bytes.
+const PLACES: usize = 4_096;
 
 /// Searches them one by one.
 fn within_all<T: Threads + Sync, W: Watch + Send>(
@@ -189,26 +205,26 @@ fn within_all<T: Threads + Sync, W: Watch + Send>(
             schedule,
             bounds,
             counts,
+            lazily: false,
         }),
         Err(halt) => Err(stopped(halt)),
     }
 }
 
-/// Searches the lazy ones alone.
+/// Searches the lazy ones alone, through so many places at most.
 fn within_lazily<W: Watch>(
     alloc: Global,
     board: &Board,
     plan: &Plan,
+    most: usize,
     bounds: Bounds,
     watch: &mut W,
 ) -> Result<Searched, NoAnswer>
-    requires { 0 < plan.now.lazy }
     ensures is { IfOk result
         (λ found. AnswersWithin plan.now board.now bounds (option_map (λ events. events.items) found.schedule)) }
     ensures bounds { IfOk result (λ found. found.bounds ≡ bounds) }
-    ensures stops { IfErr result (StopsSo plan.now board.now W.may_stop) }
+    ensures stops { IfErr result (StopsLazily plan.now board.now W.may_stop) }
 {
-    let most = plan.lazy as usize;
     match find_lazily(
         alloc,
         board,
@@ -222,11 +238,13 @@ fn within_lazily<W: Watch>(
             schedule: Some(events),
             bounds,
             counts: counts_of(NOWHERE),
+            lazily: true,
         }),
         Ok(Lazily::NoneFails(gone)) => Ok(Searched {
             schedule: None,
             bounds,
             counts: counts_of(gone),
+            lazily: true,
         }),
         Ok(Lazily::Unknown(why)) => Err(NoAnswer::Unknown(why)),
         Err(halt) => Err(stopped(halt)),
@@ -236,7 +254,11 @@ fn within_lazily<W: Watch>(
 /// What stands for the places where one fails: they aren't told.
 const NOWHERE: Gone = Gone {
     places: 0,
-    ends: 0,
+    stops: Stops {
+        ends: 0,
+        out_of_events: 0,
+        out_of_ticks: 0,
+    },
     spare: 0,
 };
 
@@ -244,9 +266,9 @@ const NOWHERE: Gone = Gone {
 fn counts_of(gone: Gone) -> Counts {
     Counts {
         tried: gone.places as u64,
-        ended: gone.ends as u64,
-        out_of_events: 0,
-        out_of_ticks: 0,
+        ended: gone.stops.ends as u64,
+        out_of_events: gone.stops.out_of_events as u64,
+        out_of_ticks: gone.stops.out_of_ticks as u64,
         spare: gone.spare,
     }
 }
@@ -311,7 +333,7 @@ fn shortest<T: Threads + Sync, W: Watch + Send>(
 {
     let mut best = found;
     while let Some(bounds) = fewer(plan, &best) {
-        let searched = match within(rt, alloc, board, plan, bounds, watch) {
+        let searched = match within(rt, alloc, board, plan, best.lazily, bounds, watch) {
             Ok(searched) => searched,
             Err(why) => return Err(no_answer(why, 0)),
         };

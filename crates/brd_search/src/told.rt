@@ -58,15 +58,17 @@ fn put_extras(alloc: Global, out: &mut Vec<u8>, bounds: Bounds) -> Result<(), No
 }
 
 /// Puts at the end of how many schedules none fails, and within which bounds, as what follows "none of "; and below
-/// that what was looked for, and how many of the schedules came to an end.
+/// that what was looked for, and how many of the schedules came to an end. If the lazy ones alone were searched, places
+/// are counted.
 pub fn put_none(
     alloc: Global,
     symbols: &[Symbol],
     plan: &Plan,
+    lazily: bool,
     counts: Counts,
     out: &mut Vec<u8>,
 ) -> Result<(), NoMemory> {
-    if plan.lazy > 0 {
+    if lazily {
         return put_none_lazily(alloc, symbols, plan, counts, out);
     }
     put_count(alloc, out, counts.tried, "schedule")?;
@@ -97,26 +99,22 @@ fn put_none_lazily(
     put(out, "\n")?;
     put_looked_for(alloc, symbols, plan, out)?;
     put_gone(alloc, counts.tried, counts.ended, out)?;
+    put_cut(alloc, counts.out_of_events, "--events", out)?;
+    put_cut(alloc, counts.out_of_ticks, "--ticks", out)?;
+    put(out, "\n")?;
     if counts.ended == 0 {
         return put(out, NO_LAZY_END);
     }
     Ok(())
 }
 
-/// Puts a line at the end of through how many places a search went, and how many of them are ends.
+/// Puts at the end through how many places a search went, and how many of them are ends.
 fn put_gone(alloc: Global, places: u64, ends: u64, out: &mut Vec<u8>) -> Result<(), NoMemory> {
     put_count(alloc, out, places, "place")?;
     put(out, if places == 1 { " was" } else { " were" })?;
     put(out, " gone through, ")?;
     put_number(alloc, out, ends)?;
-    put(
-        out,
-        if ends == 1 {
-            " is an end\n"
-        } else {
-            " are ends\n"
-        },
-    )
+    put(out, if ends == 1 { " is an end" } else { " are ends" })
 }
 
 /// What is said where no place within bounds is an end.
@@ -153,6 +151,7 @@ pub fn put_all_hold(
     put(out, "\n")?;
     put_looked_for(alloc, symbols, plan, out)?;
     put_gone(alloc, extent.places, extent.ends, out)?;
+    put(out, "\n")?;
     put_hopeless(alloc, plan, extent, out)
 }
 

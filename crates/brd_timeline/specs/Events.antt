@@ -159,7 +159,7 @@ mutex_event (place, mutex) = ThreadName (mutex_track place) (numbered (codes "mu
 
 abbrev pub owning_event : Owning → TraceEvent
 owning_event it =
-  Complete (mutex_track it.mutex) it.from it.to (codes "held") (numbered (codes "held by task ") it.task)
+    Complete (mutex_track it.mutex) it.from it.to (codes "held") (numbered (codes "held by task ") it.task)
 
 abbrev pub turn_event : Turn → TraceEvent
 turn_event turn = Complete (only_track turns) turn.from turn.to (codes "turn") (numbered (codes "cpu ") turn.cpu)

@@ -173,6 +173,7 @@ const SEARCH: SearchOptions<'static> = SearchOptions {
     livelock: false,
     finals: false,
     lazy: 0,
+    memory: 0,
 };
 
 /// The options of a journal that is made shorter.

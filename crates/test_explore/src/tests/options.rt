@@ -42,6 +42,7 @@ const OPTIONS: SearchOptions = SearchOptions {
     livelock: false,
     finals: false,
     lazy: 0,
+    memory: 0,
 };
 
 /// Options, and what is wrong with them.

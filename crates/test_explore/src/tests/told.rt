@@ -158,6 +158,7 @@ fn options_of(case: &Case) -> SearchOptions<'static> {
         livelock: false,
         finals: false,
         lazy: 0,
+        memory: 0,
     }
 }
 
@@ -170,7 +171,7 @@ fn told(
     out: &mut Vec<u8>,
 ) -> Result<(), NoMemory> {
     let Some(events) = &searched.schedule else {
-        return put_none(alloc, &[], plan, searched.counts, out);
+        return put_none(alloc, &[], plan, searched.lazily, searched.counts, out);
     };
     put_found(alloc, &[], board, &plan.wanted, events, out)
 }

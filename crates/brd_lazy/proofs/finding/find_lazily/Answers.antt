@@ -14,3 +14,4 @@ returns-in-Holds-clause-is g c =
     c.visit_all.ensures.more)
     (subst (RoundSo (sharing_for c.loop.sharing c.args.wanted.now) c.args.among.now c.args.wanted.now c.visit_all.new.spots) c.in-Holds.is
     c.in_ok-visit_all.ensures.so)
+    c.links_are_a_set.ensures

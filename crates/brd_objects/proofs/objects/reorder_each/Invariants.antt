@@ -4,4 +4,4 @@ use Rattle.brd_objects.specs.Table.{objects_changed}
 use Rattle.brd_objects.proofs.objects.reorder_each.Given as goal
 
 abbrev pub invariant-loop-row : goal.invariant-loop-row
-invariant-loop-row g l = objects_changed (g.T.Object.reordered l.task l.priority) l.fn.rows ≡ take l.row-index l.rows ++ objects_changed (g.T.Object.reordered l.task l.priority) (drop l.row-index l.rows)
+invariant-loop-row g l = objects_changed (g.T.Object.reordered l.task l.priority) l.fn.rows.items ≡ take l.row-index l.row-items ++ objects_changed (g.T.Object.reordered l.task l.priority) (drop l.row-index l.row-items)

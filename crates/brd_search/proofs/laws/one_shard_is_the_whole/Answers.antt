@@ -5,7 +5,7 @@ use Rattle.brd_search.proofs.PlanLemmas.{one_shard}
 use Rattle.brd_search.proofs.laws.one_shard_is_the_whole.Goals as goal
 
 pub returns : goal.returns
-returns c = λ plan b bounds is none set.
+returns c = λ plan b bounds is none.
     c.shards_are_the_whole.ensures 1 (omega arith) plan.wanted plan.among (start b bounds)
     (λ shard of below. subst (λ s. NoneFailsInShard plan.wanted s plan.among (start b bounds) 0)
-    (one_shard plan.shard shard is of below) (none set))
+    (one_shard plan.shard shard is of below) none)

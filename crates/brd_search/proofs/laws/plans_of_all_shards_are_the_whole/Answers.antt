@@ -2,6 +2,6 @@ use Rattle.brd_explore.specs.Schedules.{start}
 use Rattle.brd_search.proofs.laws.plans_of_all_shards_are_the_whole.Goals as goal
 
 pub returns : goal.returns
-returns c = λ of some plan b bounds none set.
+returns c = λ of some plan b bounds none.
     c.shards_are_the_whole.ensures of some plan.wanted plan.among (start b bounds)
-    (λ shard is below. none shard is below set)
+    none

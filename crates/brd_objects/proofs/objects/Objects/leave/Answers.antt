@@ -6,6 +6,6 @@ use Rattle.brd_objects.proofs.objects.Objects.leave.Goals as goal
 
 pub returns : goal.returns
 returns g c =
-    ap table_of (c.leave_each.ensures ∙ ap (objects_changed (g.T.Object.left c.args.task)) c.as_mut_slice.ensures.value)
+    ap table_of c.leave_each.ensures
     ∙ sym (changed_rows (g.T.Object.left c.args.task) c.self.inside.rows.items)
     ∙ ap (objects_changed (g.T.Object.left c.args.task)) c.self.view_is

@@ -6,6 +6,6 @@ use Rattle.brd_objects.proofs.objects.Objects.reorder.Goals as goal
 
 pub returns : goal.returns
 returns g c =
-    ap table_of (c.reorder_each.ensures ∙ ap (objects_changed (g.T.Object.reordered c.args.task c.args.priority)) c.as_mut_slice.ensures.value)
+    ap table_of c.reorder_each.ensures
     ∙ sym (changed_rows (g.T.Object.reordered c.args.task c.args.priority) c.self.inside.rows.items)
     ∙ ap (objects_changed (g.T.Object.reordered c.args.task c.args.priority)) c.self.view_is
