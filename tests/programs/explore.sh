@@ -11,9 +11,11 @@ assembled() {
     [ -f "$image" ] || "$board" asm "$examples/$1" "$image" || fail "explore: $1" "it isn't assembled"
 }
 
-# explores ARGUMENT..: runs `board explore`, which leaves $work/out and $work/err. The status is its own.
+# explores ARGUMENT..: runs `board explore`, which leaves $work/out and $work/err. The status is its own. Schedules are
+# searched one by one, unless `how` says otherwise.
+how=(--memory 0)
 explores() {
-    "$board" explore "$@" < /dev/null > "$work/out" 2> "$work/err"
+    "$board" explore "$@" "${how[@]}" < /dev/null > "$work/out" 2> "$work/err"
 }
 
 # events JOURNAL: how many it has.
@@ -139,7 +141,7 @@ without() {
 # finds NAME CONFIG PREEMPTIONS EVENTS SHOWN OPTION..: a schedule is found, with so many preemptions and none with
 # fewer, of so many events where a number is given. Its journal leads to the failure, and so does what is left of it.
 finds() {
-    local name=$1 config=$2 preemptions=$3 count=$4 how=$5 wrong fewer=()
+    local name=$1 config=$2 preemptions=$3 count=$4 shows=$5 wrong fewer=()
     shift 5
     rm -f "$work/found"
     explores "$image" "$config" "$@" --out "$work/found"
@@ -148,7 +150,7 @@ finds() {
         wrong="$wrong; $(events "$work/found") events, not $count"
     grep -qE "^fails after ($(events "$work/found") events?|[0-9]+ events? and the fair end): " "$work/out" ||
         wrong="$wrong; it says '$(head -n 1 "$work/out")', and the journal has $(events "$work/found") events"
-    wrong="$wrong$(shown "$how" "$config" "$work/found")"
+    wrong="$wrong$(shown "$shows" "$config" "$work/found")"
     while [ $# -gt 0 ]; do
         if [ "$1" = --preemptions ]; then shift; else fewer+=("$1"); fi
         shift
@@ -164,13 +166,13 @@ finds() {
     shrinks "$name" "$config" "$work/found" "${options[@]}"
 }
 
-while IFS='|' read -r source config words told how; do
+while IFS='|' read -r source config words told shows; do
     case $source in '#'* | '') continue ;; esac
     assembled "$source"
     read -ra given <<< "$words"
     read -ra answer <<< "$told"
     if [ "${answer[0]}" = found ]; then
-        finds "$source $words" "$examples/$config" "${answer[1]}" "${answer[2]:-}" "$how" "${given[@]}"
+        finds "$source $words" "$examples/$config" "${answer[1]}" "${answer[2]:-}" "$shows" "${given[@]}"
     else
         explores "$image" "$examples/$config" "${given[@]}"
         got=$?
@@ -180,7 +182,7 @@ while IFS='|' read -r source config words told how; do
     fi
 done < $examples/cases
 
-# ---- The lazy schedules alone: they come to the same, with as few preemptions.
+# ---- The lazy schedules alone, as a search goes by itself: they come to the same, with as few preemptions.
 
 # lazily OPTION..: the same options without those that such a search doesn't know.
 lazily() {
@@ -200,25 +202,41 @@ is_lazily_none() {
     [ ! -s "$work/err" ] || echo -n "; standard error is '$(head -c 300 "$work/err")'"
     [ "$(head -n 1 "$work/out")" = "none of the schedules fails: $1" ] &&
         sed -n 2p "$work/out" | grep -q '^looked for: .' &&
-        sed -n 3p "$work/out" | grep -qE '^[0-9]+ places? w(as|ere) gone through, (1 is an end|[0-9]+ are ends)$' ||
+        sed -n 3p "$work/out" | grep -qE "^[0-9]+ places? w(as|ere) gone through, (1 is an end|[0-9]+ are ends)$cut\$" ||
         echo -n "; it says '$(head -c 300 "$work/out")'"
 }
 
-while IFS='|' read -r source config words told how; do
+cut='(, [0-9]+ w(as|ere) cut short by --(events|ticks))*'
+how=()
+while IFS='|' read -r source config words told shows; do
     case $source,$words in '#'* | ,* | *--fair*) continue ;; esac
     assembled "$source"
     read -ra given <<< "$words"
     read -ra answer <<< "$told"
     lazily "${given[@]}"
     if [ "${answer[0]}" = found ]; then
-        finds "$source $words, lazily" "$examples/$config" "${answer[1]}" "${answer[2]:-}" "$how" \
-            "${options[@]}" --lazy 1000000
+        finds "$source $words, lazily" "$examples/$config" "${answer[1]}" "${answer[2]:-}" "$shows" "${options[@]}"
     else
+        explores "$image" "$examples/$config" "${options[@]}"
+        wrong=$(is_lazily_none "$(bounds "${given[@]}")" $?)
+        mv "$work/out" "$work/lazy"
         explores "$image" "$examples/$config" "${options[@]}" --lazy 1000000
-        got=$?
-        verdict "explore: $source $words, lazily" "$(is_lazily_none "$(bounds "${given[@]}")" $got)"
+        verdict "explore: $source $words, lazily" \
+            "$wrong$(cmp "$work/lazy" "$work/out" || echo "; with --lazy it says '$(head -c 300 "$work/out")'")"
     fi
 done < $examples/cases
+# Without the memory for that schedules are searched one by one: more than 4,096 places don't fit into a MiB.
+printf '%s\n' 'main: lui $t0, %hi(count)' 'addiu $t1, $0, 1500' 'again: sw $t1, %lo(count)($t0)' \
+    'addiu $t1, $t1, -1' 'bne $t1, $0, again' nop 'addiu $v0, $0, 3' syscall '.align 4' 'count: .word 0' \
+    > "$work/stores.s"
+"$board" asm "$work/stores.s" "$work/stores"
+wide=("$work/stores" $examples/lost_update.cfg --exception --preemptions 0 --events 20000)
+explores "${wide[@]}"
+wrong=$(is_lazily_none "$(bounds --events 20000 --preemptions 0)" $?)
+explores "${wide[@]}" --memory 1
+verdict "explore: more places than fit into a MiB" \
+    "$wrong$(grep -q '^none of 2 schedules fails: ' "$work/out" || head -c 300 "$work/out")"
+how=(--memory 0)
 
 # ---- Without bounds: a program that is right within them is right, and what is found within them is found.
 
@@ -246,7 +264,7 @@ holds() {
         echo -n "; it says '$(head -c 300 "$work/out")'"
 }
 
-while IFS='|' read -r source config words told how; do
+while IFS='|' read -r source config words told shows; do
     case $source in '#'* | '') continue ;; esac
     read -ra given <<< "$words"
     unbounded "${given[@]}"
@@ -276,7 +294,7 @@ while IFS='|' read -r source config words told how; do
         assembled "$source"
         explores "$image" "$examples/$config" "${options[@]}" --places 1000000 --out "$work/found"
         verdict "explore: $source $words, without bounds" \
-            "$(is_found $?)$(shown "$how" "$examples/$config" "$work/found")"
+            "$(is_found $?)$(shown "$shows" "$examples/$config" "$work/found")"
         ;;
     esac
 done < $examples/cases
@@ -503,7 +521,7 @@ explores "$work/racy" examples/lost_update/racy.cfg --console 9 --ends
 grep -q '^fails after 60 events: the console is "6", not "9"$' "$work/out"
 verdict "explore: what the console is" "$([ $? = 0 ] || head -n 1 "$work/out")"
 assembled interrupt.s
-(ulimit -t 20; exec "$board" explore "$image" $examples/interrupt.cfg --preemptions 100000) < /dev/null > "$work/out" \
+(ulimit -t 20; exec "$board" explore "$image" $examples/interrupt.cfg --preemptions 100000 --memory 0) < /dev/null > "$work/out" \
     2> "$work/err"
 got=$?
 verdict "explore: more preemptions than can help" "$([ $got = 0 ] || echo "status $got")"
@@ -521,11 +539,11 @@ got=$?
 verdict "explore: no events, and a fair end" "$([ $got = 5 ] || echo "status $got")"
 assembled lost_update_right.s
 sed 's/0x10000)/0x1000000)/' $examples/lost_update.cfg > "$work/large.cfg"
-(ulimit -v 400000; exec "$board" explore "$image" "$work/large.cfg" --word count=2) < /dev/null > "$work/out" \
+(ulimit -v 400000; exec "$board" explore "$image" "$work/large.cfg" --word count=2 --memory 0) < /dev/null > "$work/out" \
     2> "$work/err"
 verdict "explore: 16 MiB of RAM in 400,000 KiB" \
     "$(is_none 16 "at most 1000 events, 1 preemption, 0 ticks and 0 raises" $?)"
-(ulimit -v 40000; exec "$board" explore "$image" "$work/large.cfg" --word count=2) < /dev/null > "$work/out" \
+(ulimit -v 40000; exec "$board" explore "$image" "$work/large.cfg" --word count=2 --memory 0) < /dev/null > "$work/out" \
     2> "$work/err"
 check "explore: 16 MiB of RAM in 40,000 KiB" 3 "$work/nothing" "board: out of memory" $?
 
@@ -670,7 +688,7 @@ for wrong in '\' '\q' '\x4' '\xzz'; do
     refuses '--console has a text, in which \n, \r, \t, \\ and \xHH stand for a byte' --console "$wrong"
 done
 refuses "--time doesn't go with --shortest" --shortest --time 1
-for option in --events --preemptions --ticks --fair --remember --threads --time; do
+for option in --events --preemptions --ticks --fair --remember --threads --time --memory; do
     for wrong in x -1 1.5 4294967296; do
         explores "${files[@]}" $option $wrong
         got=$?

@@ -212,7 +212,7 @@ says "a schedule of a race" 2 "the schedule is kept as $work/build/explore.journ
 says "a schedule that is made shorter" 0 "the schedule is kept as $work/build/shrunk.journal" \
     project "$adders" shrink CFLAGS=-DRACE
 says "all schedules" 0 \
-    'none of [0-9]+ schedules fails: at most 100000 events, 2 preemptions, 0 ticks and 0 raises' \
+    'none of the schedules fails: at most 100000 events, 2 preemptions, 0 ticks and 0 raises' \
     project "$adders" explore PREEMPTIONS=2
 says "all schedules, by three threads" 0 \
     'none of [0-9]+ schedules fails: at most 100000 events, 2 preemptions, 0 ticks and 0 raises' \
@@ -427,7 +427,7 @@ verdict "kit: how a schedule that loses output fails" "$(
 says "an order that loses output" 2 "seed [0-9]+: lost output; the order is kept as $work/build/hunt.journal" \
     project "$adders" hunt SOURCES="$work/lose.c" CFLAGS=-w EXPECT=off
 sed 's/put_chr(65)/try_put_chr(65) == E_CTX || (sum = 0)/' "$work/lose.c" > "$work/tries.c"
-says "schedules in which a program sees to a refusal itself" 0 "none of [0-9]+ schedules fails: .*" \
+says "schedules in which a program sees to a refusal itself" 0 "none of the schedules fails: .*" \
     project "$adders" explore SOURCES="$work/tries.c" CFLAGS=-w
 
 cp -r sdk/project "$work/endless"

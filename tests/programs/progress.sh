@@ -106,7 +106,7 @@ input=/dev/null
 
 "$board" asm examples/explore/philosophers_right.s "$work/dining"
 shows "Ctrl-C in a search" 130 shown '(\\r[0-9]+ schedules tried, none fails so far\\x1b\[K)+.*' \
-    explore "$work/dining" examples/explore/philosophers.cfg --preemptions 3
+    explore "$work/dining" examples/explore/philosophers.cfg --preemptions 3 --memory 0
 
 # By lazy schedules it is told how many places were gone through. Two tasks that count come to new ones for ever.
 printf '%s\n' 'count: .word 0' 'main: lui $s0, %hi(count)' 'again: lw $t0, %lo(count)($s0)' 'addiu $t0, $t0, 1' \

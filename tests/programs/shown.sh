@@ -132,11 +132,11 @@ says "lines of C at the switches of what was made shorter" 0 \
 
 # Searches that end when their time is over: all schedules up to a bound, what fails, and what isn't known.
 says "a search with time enough" 0 \
-    '^none of [0-9]+ schedules fails: at most 100000 events, 2 preemptions, 0 ticks and 0 raises$' \
+    '^none of the schedules fails: at most 100000 events, 2 preemptions, 0 ticks and 0 raises$' \
     "$adders" explore TIME=300 PREEMPTIONS=2
 says "a search with time finds what fails" 2 '^fails after [0-9]+ events: ' "$adders" explore TIME=300 CFLAGS=-DRACE
 says "a search whose time is over" 0 '^with [1-9][0-9]* preemptions?: not known, TIME=2 seconds are over$' \
-    "$adders" explore TIME=2
+    "$adders" explore TIME=2 THREADS=1
 has "what a search knows when its time is over" \
     '^none of [0-9]+ schedules? fails: at most 100000 events, [0-9]+ preemptions?, 0 ticks and 0 raises$'
 verdict "they are one bound apart" "$(awk '
@@ -144,10 +144,10 @@ verdict "they are one bound apart" "$(awk '
     /not known/ { unknown = $2 }
     END { if (unknown != known + 1) print known, unknown }' "$work/said")"
 says "a search that ends since one preemption more makes no more schedules" 0 \
-    '^none of 1 schedule fails: at most 10 events, 1 preemption, 0 ticks and 0 raises$' \
+    '^none of the schedules fails: at most 10 events, 1 preemption, 0 ticks and 0 raises$' \
     "$new" explore TIME=300 RAISES=0 EVENTS=10
 says "a search with no time for one without preemptions" 2 '^without preemptions: not known, TIME=1 seconds are over$' \
-    "$adders" explore TIME=1 TICKS=9
+    "$adders" explore TIME=1 TICKS=9 THREADS=1
 says "a search's TIME" 2 "^TIME is a number of seconds, and not 'long'\$" "$adders" explore TIME=long
 says "a hunt whose time is over" 0 '^TIME=2 seconds are over: seed [0-9]+ is the next$' "$adders" hunt TIME=2 SEED=5
 has "what a hunt knows when its time is over" '^ok: [0-9]+ orders?, from seed 5 on, with the console of firmware\.journal$'

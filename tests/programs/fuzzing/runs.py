@@ -305,8 +305,10 @@ class Runs:
         """A search says that none fails, or what does, and leaves a journal that can be played."""
         found = ended.files.get("out.journal")
         if ended.status == 0:
-            none = re.fullmatch(rb"none of [0-9]+ schedules? fails: at most .*\nlooked for: .*\n"
-                                rb"[0-9]+ came to an end, .*\n(warning: none came to an end, .*\n)?", ended.stdout)
+            none = re.fullmatch(rb"none of ([0-9]+ schedules?|the schedules) fails: at most .*\nlooked for: .*\n"
+                                rb"([0-9]+ came to an end, .*\n(warning: none came to an end, .*\n)?|"
+                                rb"[0-9]+ places? w(as|ere) gone through, .*\n(warning: none is an end, .*\n)?)",
+                                ended.stdout)
             return None if none and found is None else "other words than of a search that finds nothing"
         if ended.stderr != FAILS:
             return "a journal after a fault" if found else None
