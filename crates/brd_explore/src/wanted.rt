@@ -446,8 +446,8 @@ pub fn is_end(board: &Board, left: Bounds) -> Result<bool, NoMemory>
     is_at_rest(board)
 }
 
-/// Whether such a schedule is cut short: it isn't at an end, and no event is left; or nobody goes, and the tick that would
-/// end a wait, or at which a time handler would be due, isn't left.
+/// Whether such a schedule is cut short: it isn't at an end, and no event is left; or nobody goes, and the tick that
+/// would end a wait, or at which a time handler would be due, isn't left.
 #[tactic(auto, unfolding(crate::specs::Failures::is_cut))]
 pub fn is_cut(board: &Board, left: Bounds) -> Result<bool, NoMemory>
     ensures { IfOk result (λ cut. cut ≡ is_cut board.now left) }

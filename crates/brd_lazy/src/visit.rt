@@ -32,7 +32,8 @@ pub(crate) enum Tried {
 }
 
 /// Visits the place of an index: looks whether it fails, and tries all events that may come there. `words` are the
-/// addresses of the words by whose values places are told from each other at first sight. Where schedules stop is counted.
+/// addresses of the words by whose values places are told from each other at first sight. Where schedules stop is
+/// counted.
 pub(crate) fn visit(
     spots: &mut Spots,
     stops: &mut Stops,

@@ -60,6 +60,33 @@ pub(crate) fn put_back(
     Ok(())
 }
 
+/// The board of the place of an index, made anew by one copy; the start's if there is none.
+#[tactic(auto, using(crate::proofs::StepLemmas::none_board, crate::proofs::StepLemmas::came_other, crate::proofs::StepLemmas::came_earlier))]
+pub(crate) fn made(
+    start: &Board,
+    entries: &[Entry],
+    kept: &[Kept],
+    i: usize,
+) -> Result<Board, NoMemory>
+    requires { AreKept start.now entries.now kept.now }
+    ensures { IfOk result (λ board. board ≡ board_at start.now (places_of start.now entries.now) i) }
+{
+    let Some(entry) = entry_at(entries, i) else {
+        return start.try_copy();
+    };
+    if let Some(snapshot) = snapshot_at(kept, entry.kept, i) {
+        return Board::from_snapshot(start, snapshot);
+    }
+    let parent = entry.parent as usize;
+    let mut board = if parent < i {
+        made(start, entries, kept, parent)?
+    } else {
+        start.try_copy()?
+    };
+    board.repeat(entry.event, entry.count);
+    Ok(board)
+}
+
 /// The snapshot of the place of an index, if it is the one that stands there.
 fn snapshot_at(kept: &[Kept], at: u32, i: usize) -> Option<&Snapshot>
     ensures { (start : BoardOf) (entries : ListOf EntryOf) → AreKept start entries kept.now →

@@ -6,7 +6,7 @@ ghost use Rattle.brd_board.specs.Board.{after};
 ghost use Rattle.brd_places.specs.Places.{Place, place_after};
 
 use crate::entry::{Entry, entry_at, first_entry};
-use crate::kept::{Kept, kept_next, put, put_back, since_after};
+use crate::kept::{Kept, kept_next, made, put, put_back, since_after};
 use crate::left::Left;
 use crate::marks::Marks;
 use crate::path::path_to;
@@ -100,17 +100,15 @@ impl Places {
     }
 
     /// The board of the place of an index.
-    #[tactic(auto, using(crate::proofs::ModelLemmas::place_board, crate::proofs::ModelLemmas::alike_same))]
+    #[tactic(auto, using(crate::proofs::ModelLemmas::place_board))]
     pub fn board(&self, i: usize) -> Result<Board, NoMemory>
         ensures { (place : Place) → slice_get self.now i ≡ Some place → IfOk result (λ board. board ≡ place.board) }
     {
-        let mut board = self.start.try_copy()?;
-        put_back(
+        let board = made(
             &self.start,
             self.entries.as_slice(),
             self.kept.as_slice(),
             i,
-            &mut board,
         )?;
         Ok(board)
     }

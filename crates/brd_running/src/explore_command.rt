@@ -537,7 +537,7 @@ impl<'a, P: Progress> Watch for Searching<'a, P> {
 }
 
 /// How many turns a search takes before it is asked anew whether its time is over (own choice).
-const TURNS: u32 = 1_024;
+const TURNS: u32 = 128;
 
 /// The same, for so many seconds at most.
 #[derive(Drop)]

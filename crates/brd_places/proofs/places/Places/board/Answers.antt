@@ -6,6 +6,6 @@ use Rattle.brd_places.proofs.places.Places.board.Goals as goal
 
 pub returns : goal.returns
 returns c = λ place is.
-    place_board c.self.inside.start c.put_back.new.board c.self.inside.entries.items c.args.self.now c.args.i place c.self.view_is is
-    (c.in_ok-put_back.ensures.ok
+    place_board c.self.inside.start c.in_ok-board.board c.self.inside.entries.items c.args.self.now c.args.i place c.self.view_is is
+    (c.in_ok-board.ensures
     ∙ ap (λ (es : List Entry). board_at c.self.inside.start (places_of c.self.inside.start es) c.args.i) c.as_slice.ensures.value)
