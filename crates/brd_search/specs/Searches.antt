@@ -60,13 +60,6 @@ StopsSo plan b may (no_answer.StoppedAfter preemptions) =
     (may ≡ true) × (preemptions < plan.bounds.preemptions)
     × NoneWithin plan b (record plan.bounds { preemptions = preemptions })
 
--- why one by lazy schedules has come to none is so: as far as it is known
-abbrev pub StopsLazily : Plan → BoardState → Bool → NoAnswer → Type 0
-StopsLazily plan b may (no_answer.Unknown why) = Unit {0}
-StopsLazily plan b may no_answer.NoMemory = StopsSo plan b may no_answer.NoMemory
-StopsLazily plan b may no_answer.Stopped = StopsSo plan b may no_answer.Stopped
-StopsLazily plan b may (no_answer.StoppedAfter preemptions) = StopsSo plan b may (no_answer.StoppedAfter preemptions)
-
 -- the plan's bounds, with one event fewer than a schedule has that was found, and than the bounds of it
 abbrev pub shorter : Plan → Bounds → List Event → Bounds
 shorter plan bounds events = record plan.bounds { events = min (length events) bounds.events - 1 }

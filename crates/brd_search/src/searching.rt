@@ -2,7 +2,7 @@
 
 ghost use Rattle.std.specs.Prelude.{option_map, ◌≡◌, ◌≤◌, ◌<◌, Bool, true, false, IfErr, IfOk, IfSome, IfNone};
 ghost use Rattle.brd_search.specs.Searches.{Answers, AnswersWithin, IsFewer, IsFewest, IsLeast, IsShortest, NoneBelow};
-ghost use Rattle.brd_search.specs.Searches.{StopsLazily, StopsSo};
+ghost use Rattle.brd_search.specs.Searches.{StopsSo};
 ghost use Rattle.brd_search.specs.declared.plan.Plan.{Plan as PlanOf};
 ghost use Rattle.brd_board.specs.Board.{BoardState as BoardOf};
 ghost use Rattle.brd_explore.specs.Searching.{HaltsSo};
@@ -158,21 +158,32 @@ fn within<T: Threads + Sync, W: Watch + Send>(
     ensures bounds { IfOk result (λ found. found.bounds ≡ bounds) }
     ensures stops { IfErr result (StopsSo plan.now board.now W.may_stop) }
 {
-    if plan.lazy > 0 {
-        return within_lazily(alloc, board, plan, plan.lazy as usize, bounds, watch);
-    }
-    if !lazily || plan.memory == 0 {
+    let most = most_places(plan, lazily);
+    if most == 0 {
         return within_all(rt, alloc, board, plan, bounds, watch);
     }
-    let most = plan.memory as usize * PLACES;
     match within_lazily(alloc, board, plan, most, bounds, watch) {
-        Err(NoAnswer::Unknown(_)) => within_all(rt, alloc, board, plan, bounds, watch),
-        searched => searched,
+        Ok(Ok(searched)) => Ok(searched),
+        Ok(Err(why)) if plan.lazy > 0 => Err(NoAnswer::Unknown(why)),
+        Ok(Err(_)) => within_all(rt, alloc, board, plan, bounds, watch),
+        Err(halt) => Err(stopped(halt)),
     }
 }
 
 /// How many places of a search by lazy schedules a MiB holds, about (own choice): most have some tens of bytes.
 const PLACES: usize = 4_096;
+
+/// Through how many places a search by the lazy schedules alone goes at most, if it may be made; 0: there is none.
+fn most_places(plan: &Plan, lazily: bool) -> usize {
+    if plan.lazy > 0 {
+        return plan.lazy as usize;
+    }
+    if lazily {
+        plan.memory as usize * PLACES
+    } else {
+        0
+    }
+}
 
 /// Searches them one by one.
 fn within_all<T: Threads + Sync, W: Watch + Send>(
@@ -211,7 +222,7 @@ fn within_all<T: Threads + Sync, W: Watch + Send>(
     }
 }
 
-/// Searches the lazy ones alone, through so many places at most.
+/// Searches the lazy ones alone, through so many places at most: what that came to, or why it isn't known.
 fn within_lazily<W: Watch>(
     alloc: Global,
     board: &Board,
@@ -219,13 +230,13 @@ fn within_lazily<W: Watch>(
     most: usize,
     bounds: Bounds,
     watch: &mut W,
-) -> Result<Searched, NoAnswer>
-    ensures is { IfOk result
-        (λ found. AnswersWithin plan.now board.now bounds (option_map (λ events. events.items) found.schedule)) }
-    ensures bounds { IfOk result (λ found. found.bounds ≡ bounds) }
-    ensures stops { IfErr result (StopsLazily plan.now board.now W.may_stop) }
+) -> Result<Result<Searched, Unknown>, Halt>
+    ensures is { IfOk result (λ known. IfOk known
+        (λ found. AnswersWithin plan.now board.now bounds (option_map (λ events. events.items) found.schedule))) }
+    ensures bounds { IfOk result (λ known. IfOk known (λ found. found.bounds ≡ bounds)) }
+    ensures halts { IfErr result (HaltsSo W.may_stop) }
 {
-    match find_lazily(
+    let found = find_lazily(
         alloc,
         board,
         bounds,
@@ -233,21 +244,21 @@ fn within_lazily<W: Watch>(
         &plan.wanted,
         most,
         watch,
-    ) {
-        Ok(Lazily::Found(events)) => Ok(Searched {
+    )?;
+    match found {
+        Lazily::Found(events) => Ok(Ok(Searched {
             schedule: Some(events),
             bounds,
             counts: counts_of(NOWHERE),
             lazily: true,
-        }),
-        Ok(Lazily::NoneFails(gone)) => Ok(Searched {
+        })),
+        Lazily::NoneFails(gone) => Ok(Ok(Searched {
             schedule: None,
             bounds,
             counts: counts_of(gone),
             lazily: true,
-        }),
-        Ok(Lazily::Unknown(why)) => Err(NoAnswer::Unknown(why)),
-        Err(halt) => Err(stopped(halt)),
+        })),
+        Lazily::Unknown(why) => Ok(Err(why)),
     }
 }
 
