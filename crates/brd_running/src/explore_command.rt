@@ -15,7 +15,7 @@ ghost use Rattle.brd_board.specs.Board.{BoardState};
 use crate::saving::{is_over, journal_text, save, tell, try_out};
 use brd_base::{List, NoMemory};
 use brd_board::{Board, Event};
-use brd_explore::{Bounds, Watch};
+use brd_explore::{Bounds, Counts, Watch};
 use brd_inputs::{CommandFault, Files, Loaded, Pair, open_pair, read_board};
 use brd_mem::Symbol;
 use brd_places::Left;
@@ -154,9 +154,9 @@ fn told_of<P: Progress + Send, T: Threads + Sync>(
         Ok(searched) => searched,
         Err(why) => return Err(no_answer_of(why)),
     };
-    match &searched.schedule {
-        Some(events) => told_found(alloc, &loaded.board, symbols, &plan, events.as_slice()),
-        None => Ok(told_none(alloc, symbols, &plan, &searched)?),
+    match searched.schedule {
+        Some(events) => told_found(alloc, &loaded.board, symbols, &plan, &events),
+        None => Ok(told_none(alloc, symbols, &plan, searched.lazily, searched.counts)?),
     }
 }
 
@@ -435,20 +435,14 @@ fn told_none(
     alloc: Global,
     symbols: &[Symbol],
     plan: &Plan,
-    searched: &Searched,
+    lazily: bool,
+    counts: Counts,
 ) -> Result<Told, NoMemory>
     ensures { (board : BoardState) → IfOk result
         (λ told. Tells plan.now board None told.text.items (option_map (λ text. text.items) told.journal)) }
 {
     let mut rest = Vec::new(alloc);
-    put_none(
-        alloc,
-        symbols,
-        plan,
-        searched.lazily,
-        searched.counts,
-        &mut rest,
-    )?;
+    put_none(alloc, symbols, plan, lazily, counts, &mut rest)?;
     let text = joined(alloc, NONE, &rest)?;
     Ok(Told {
         text,
