@@ -731,6 +731,7 @@ fi
 # (A search that may remember states remembers fewer where a growth is refused, and says another number of schedules.)
 assembled lost_update_right.s
 : > "$work/in"
+how=()
 explores "$image" $examples/lost_update.cfg --word count=2
 cp "$work/out" "$work/wanted"
 refuse_each explore 3 "board: out of memory" "$board" explore "$image" $examples/lost_update.cfg --word count=2

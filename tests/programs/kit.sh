@@ -427,7 +427,8 @@ verdict "kit: how a schedule that loses output fails" "$(
 says "an order that loses output" 2 "seed [0-9]+: lost output; the order is kept as $work/build/hunt.journal" \
     project "$adders" hunt SOURCES="$work/lose.c" CFLAGS=-w EXPECT=off
 sed 's/put_chr(65)/try_put_chr(65) == E_CTX || (sum = 0)/' "$work/lose.c" > "$work/tries.c"
-says "schedules in which a program sees to a refusal itself" 0 "none of the schedules fails: .*" \
+says "schedules in which a program sees to a refusal itself" 0 \
+    "none of the schedules fails: at most 100000 events, 1 preemption, 0 ticks and 0 raises" \
     project "$adders" explore SOURCES="$work/tries.c" CFLAGS=-w
 
 cp -r sdk/project "$work/endless"
