@@ -5,7 +5,7 @@ ghost use Rattle.std.specs.Prelude.{◌≡◌, IfOk};
 use brd_base::{List, NoMemory};
 use std::alloc::Global;
 use std::marker::Model;
-use std::rc::Rc;
+use std::sync::Arc;
 
 /// How many bytes a page has (own choice).
 pub const PAGE_SIZE: usize = 4_096;
@@ -22,16 +22,16 @@ pub struct Page {
 /// A page that several lists may have, and that lies in memory once. It can't be changed.
 #[derive(Drop)]
 pub struct SharedPage {
-    page: Rc<Page>,
+    page: Arc<Page, Global>,
 }
 
 impl Model for SharedPage {
-    ghost use Rattle.std.specs.Rc.{rc_value};
+    ghost use Rattle.std.specs.Arc.{arc_value};
     ghost use Rattle.brd_mem.specs.declared.pages.Page.{Page};
 
     ghost Value = { Page };
 
-    ghost view = { λ shared. rc_value shared.page };
+    ghost view = { λ shared. arc_value shared.page };
 }
 
 impl SharedPage {
@@ -39,7 +39,7 @@ impl SharedPage {
     pub fn new(alloc: Global, page: Page) -> Result<SharedPage, NoMemory>
         ensures { IfOk result (λ shared. shared ≡ page) }
     {
-        match Rc::new(alloc, page) {
+        match Arc::new(alloc, page) {
             Ok(page) => Ok(SharedPage { page }),
             Err(_) => Err(NoMemory),
         }
@@ -49,9 +49,10 @@ impl SharedPage {
     pub fn share(&self) -> Result<SharedPage, NoMemory>
         ensures { IfOk result (λ shared. shared ≡ self.now) }
     {
-        Ok(SharedPage {
-            page: self.page.clone()?,
-        })
+        match Arc::try_clone(&self.page) {
+            Ok(page) => Ok(SharedPage { page }),
+            Err(_) => Err(NoMemory),
+        }
     }
 
     /// The page.

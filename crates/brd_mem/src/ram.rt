@@ -94,7 +94,23 @@ impl Ram {
     pub fn same(&self, other: &Ram) -> bool
         ensures { Decides result (self.now ≡ other.now) }
     {
-        self.order == other.order && self.bytes.as_slice() == other.bytes.as_slice()
+        self.order == other.order
+            && self.bytes.len() == other.bytes.len()
+            && self.has_same_pages(other)
+    }
+
+    /// Whether both have the same bytes in all pages.
+    fn has_same_pages(&self, other: &Ram) -> bool
+        requires sizes { size_of self.now ≡ size_of other.now }
+        requires orders { self.now.order ≡ other.now.order }
+        ensures { Decides result (self.now ≡ other.now) }
+    {
+        for number in 0..self.bytes.len() / PAGE_SIZE {
+            if !self.has_alike(number, other) {
+                return false;
+            }
+        }
+        true
     }
 
     /// In which order the bytes of its halfwords and words lie.
