@@ -44,6 +44,14 @@ impl Board {
         Ok(())
     }
 
+    /// Whether both have RAM of one size and order, so that one can become equal to the other in place.
+    pub fn is_alike(&self, other: &Board) -> bool
+        ensures sizes { result ≡ true → size_of self.now.memory ≡ size_of other.now.memory }
+        ensures orders { result ≡ true → self.now.memory.order ≡ other.now.memory.order }
+    {
+        self.ram.size() == other.ram.size() && self.ram.order() == other.ram.order()
+    }
+
     /// Becomes equal to a board whose RAM has the same size and order. Of RAM it writes only pages to which anything
     /// was ever written. A refusal leaves it as it is.
     pub fn copy_from(&mut self, other: &Board) -> Result<(), NoMemory>
