@@ -43,6 +43,7 @@ const OPTIONS: SearchOptions = SearchOptions {
     finals: false,
     lazy: 0,
     memory: 0,
+    values: None,
 };
 
 /// Options, and what is wrong with them.
