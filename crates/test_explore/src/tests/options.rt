@@ -146,6 +146,41 @@ const FAULTS: &[(SearchOptions<'static>, SearchFault)] = &[
     ),
     (
         SearchOptions {
+            places: 1,
+            values: Some("0x80000000"),
+            ..OPTIONS
+        },
+        SearchFault::NoFinals,
+    ),
+    (
+        SearchOptions {
+            places: 1,
+            finals: true,
+            values: Some("count"),
+            ..OPTIONS
+        },
+        SearchFault::Values,
+    ),
+    (
+        SearchOptions {
+            places: 1,
+            finals: true,
+            values: Some("0x80000000,0x80000004,0x80000000"),
+            ..OPTIONS
+        },
+        SearchFault::ValuesTwice,
+    ),
+    (
+        SearchOptions {
+            places: 1,
+            finals: true,
+            values: Some("0x80000004,0x80000002"),
+            ..OPTIONS
+        },
+        SearchFault::NoWord,
+    ),
+    (
+        SearchOptions {
             raises: Some("1"),
             ..OPTIONS
         },
