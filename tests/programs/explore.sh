@@ -659,8 +659,8 @@ for option in "--fair 1" "--remember 1" "--shard 1/1" --shortest "--threads 2" "
     refuses "--places goes with none of --fair, --remember, --shard, --shortest, --threads and --time" --places 10 $option
 done
 refuses "not known: there are more than --places places" --places 1
-for option in "--fair 1" "--remember 1" "--shard 1/1" "--threads 2" "--places 10"; do
-    refuses "--lazy goes with none of --fair, --places, --remember, --shard and --threads" --lazy 10 $option
+for option in "--fair 1" "--remember 1" "--shard 1/1" "--places 10"; do
+    refuses "--lazy goes with none of --fair, --places, --remember and --shard" --lazy 10 $option
 done
 refuses "not known: there are more than --lazy places" --lazy 1
 refuses "--livelock and --finals go with --places" --livelock
