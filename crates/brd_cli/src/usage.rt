@@ -596,6 +596,12 @@ fn with_search<'a>(alloc: Global, command: Command<'a>) -> Result<Command<'a>, N
             "finals",
             "With --places: if none fails, lists the consoles of all ends",
         ))?
+        .arg(option(
+            alloc,
+            "VALUES",
+            "values",
+            "With --finals: lists the values of these words too, as count,x",
+        ))?
         .arg(count(
             alloc,
             "MOST",

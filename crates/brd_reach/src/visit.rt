@@ -53,7 +53,7 @@ pub(crate) fn visit(
     if wanted.fails_at(&board, bounds_of(left))? {
         return Ok(Tried::Fails);
     }
-    ways.come(alloc, stop_at(&board, left)?, board.console())?;
+    ways.come(alloc, stop_at(&board, left)?, &board)?;
     for event in among {
         match try_event(
             places, ways, at, &board, left, sharing, words, wanted, *event,

@@ -16,6 +16,7 @@ mod raises;
 mod searching;
 mod shown;
 mod told;
+mod values;
 mod wanting;
 
 pub use fault::SearchFault;

@@ -10,6 +10,7 @@ use crate::coming::{check_lines, may_come};
 use crate::fault::SearchFault;
 use crate::options::{SearchOptions, Sizes};
 use crate::raises::{Raises, raises_of};
+use crate::values::values_of;
 use crate::wanting::wanted_of;
 use brd_base::List;
 use brd_board::{Board, Event};
@@ -59,6 +60,8 @@ pub struct Plan {
     /// If it isn't said: how many MiB of places it remembers at most before it goes on by all schedules; 0: it goes by
     /// all at once.
     pub memory: u32,
+    /// The addresses of the words whose values such a list has beside the consoles.
+    pub values: List<u32>,
 }
 
 /// Written out, so that a function that lets one go is proved with a call.
@@ -78,6 +81,7 @@ impl Drop for Plan {
             finals: _,
             lazy: _,
             memory: _,
+            values: _,
         } = self;
     }
 }
@@ -106,6 +110,7 @@ pub fn plan_of(
     let among = may_come(alloc, options, raises.most, cpus)?;
     check_lines(board, among.as_slice())?;
     let wanted = wanted_of(alloc, &options.looks, options.sizes.fair, cpus, symbols)?;
+    let values = values_of(alloc, options, board, symbols)?;
     Ok(Plan {
         bounds,
         among,
@@ -120,6 +125,7 @@ pub fn plan_of(
         finals: options.finals,
         lazy: options.lazy,
         memory: memory_of(options),
+        values,
     })
 }
 
