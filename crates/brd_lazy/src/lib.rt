@@ -6,10 +6,17 @@
 #![tactic(auto)]
 
 mod block;
+mod crew;
 mod finding;
+mod finds;
 pub mod laws;
+mod part;
+mod round;
+mod seats;
+mod settle;
 mod spots;
 mod stops;
+mod twins;
 mod visit;
 
 pub use finding::{Gone, Lazily, find_lazily};

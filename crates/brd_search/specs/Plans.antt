@@ -462,8 +462,7 @@ time_fits options = not (options.shortest && not (options.time == 0))
 -- options ask for nothing that a search by the lazy schedules alone doesn't know
 abbrev pub is_simple : SearchOptions → Bool
 is_simple options =
-    not (is_some (text_of options.shard)) && options.sizes.fair == 0 && options.remember == 0 && options.threads == 0
-    && options.places == 0
+    not (is_some (text_of options.shard)) && options.sizes.fair == 0 && options.remember == 0 && options.places == 0
 
 -- they don't ask for such a search, or for nothing else
 abbrev pub lazy_fits : SearchOptions → Bool

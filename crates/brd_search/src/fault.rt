@@ -70,7 +70,7 @@ pub enum SearchFault {
     #[error("--time doesn't go with --shortest")]
     Time,
     /// A search by lazy schedules is to do what it doesn't know.
-    #[error("--lazy goes with none of --fair, --places, --remember, --shard and --threads")]
+    #[error("--lazy goes with none of --fair, --places, --remember and --shard")]
     Lazy,
     /// The time of a search is over, and of no schedule it is known whether it fails.
     #[error("not known: --time is over")]

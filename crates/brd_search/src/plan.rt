@@ -163,7 +163,7 @@ fn check_time(options: &SearchOptions<'_>) -> Result<(), SearchFault>
     Ok(())
 }
 
-/// A search by the lazy schedules alone goes through the whole within bounds, by one thread, and to no fair end.
+/// A search by the lazy schedules alone goes through the whole within bounds, and to no fair end.
 fn check_lazy(options: &SearchOptions<'_>) -> Result<(), SearchFault>
     ensures { MatchResult result (λ _. lazy_fits options.now ≡ true) (IsOfLazy (lazy_fits options.now)) }
 {
@@ -198,7 +198,6 @@ fn is_simple(options: &SearchOptions<'_>) -> bool
     options.shard.is_none()
         && options.sizes.fair == 0
         && options.remember == 0
-        && options.threads == 0
         && options.places == 0
 }
 
