@@ -379,20 +379,30 @@ adders 'again:  ll      $t0, %lo(count)($s0)' '        addiu   $t0, $t0, 1' '   
 "$board" asm "$work/adders.s" "$image"
 wanted=0 reaches "two tasks that add by LL and SC" $examples/lost_update.cfg lost
 
-# ---- The consoles of all ends: those of the race, each with its schedule; of the repaired program the right one.
+# ---- The consoles of all ends: those of the race, each with its schedule; of the repaired program the right one. The
+# values of words tell ends apart that print the same.
 
 ends() {
     local wanted=$1 wrong=
     shift
     explores "$@" --places 100000 --finals || wrong="; status $?"
-    [ "$(sed -n 's/^\(".*"\) at an end after [0-9]* events$/\1/p' "$work/out" | sort | tr -d '\n')" = "$wanted" ] ||
+    [ "$(sed -n 's/^\(".*\) at an end after [0-9]* events$/\1/p' "$work/out" | sort | tr -d '\n')" = "$wanted" ] ||
         wrong="$wrong; it says '$(head -c 500 "$work/out")'"
-    verdict "explore: $1, the consoles of all ends" "$wrong"
+    verdict "explore: $*, all ends" "$wrong"
 }
 "$board" asm examples/lost_update/racy.s "$work/racy.elf"
 "$board" asm examples/lost_update/repaired.s "$work/repaired.elf"
 ends '"3""4""5""6""7""8""9"' "$work/racy.elf" examples/lost_update/racy.cfg
 ends '"9"' "$work/repaired.elf" examples/lost_update/repaired.cfg
+assembled lost_update.s
+ends '""' "$image" $examples/lost_update.cfg
+ends '"", count=1"", count=2' "$image" $examples/lost_update.cfg --values count
+verdict "explore: how many ends there are by values" \
+    "$(grep -qx '2 consoles with values at the ends, and no other' "$work/out" || head -c 500 "$work/out")"
+ends '"", main=1007714304, count=1"", main=1007714304, count=2' \
+    "$image" $examples/lost_update.cfg --values 0x80000004,count
+assembled lost_update_right.s
+ends '"", count=2' "$image" $examples/lost_update.cfg --values count
 
 # ---- A task that another one ends while it counts in memory of its own: started again it shows how far it had come.
 
@@ -693,8 +703,8 @@ for option in "--fair 1" "--remember 1" "--shard 1/1" --shortest "--threads 2" "
     refuses "--places goes with none of --fair, --remember, --shard, --shortest, --threads and --time" --places 10 $option
 done
 refuses "not known: there are more than --places places" --places 1
-for option in "--fair 1" "--remember 1" "--shard 1/1" "--threads 2" "--places 10"; do
-    refuses "--lazy goes with none of --fair, --places, --remember, --shard and --threads" --lazy 10 $option
+for option in "--fair 1" "--remember 1" "--shard 1/1" "--places 10"; do
+    refuses "--lazy goes with none of --fair, --places, --remember and --shard" --lazy 10 $option
 done
 refuses "not known: there are more than --lazy places" --lazy 1
 only="--only has regions of instructions with commas between them, as push..pop: from a place up to, not including, another one, each a symbol of the object file, or 0x and a hexadecimal address"
@@ -713,6 +723,16 @@ for option in "--fair 1" "--remember 1" "--shard 1/1" "--threads 2" "--places 10
 done
 refuses "--livelock and --finals go with --places" --livelock
 refuses "--livelock and --finals go with --places" --finals
+refuses "--values goes with --finals" --places 1000 --values count
+values="--values has words with commas between them, each a symbol of the object file, or 0x and a hexadecimal address"
+for wrong in nothing count=1 'count,' ',count' count,,main 0x 0x100000000 ''; do
+    refuses "$values" --places 1000 --finals --values "$wrong"
+done
+refuses "--values names a word twice" --places 1000 --finals --values count,main,0x80000000
+for wrong in 0x80000002 0x7ffffffc 0x80010000 0xfffffffc; do
+    refuses "--values names a place that has no word: it isn't in RAM, or its address is no multiple of 4" \
+        --places 1000 --finals --values "$wrong"
+done
 refuses "--remember is a number of MiB from 0 to 4,096" --remember 4097
 refuses "--threads is a number from 1 to 64" --threads 65
 refuses "--raises says how often lines may be raised, and --lines which" --raises 1

@@ -156,6 +156,7 @@ AreSearchOptions rows options = AreSizes rows options.sizes
     × IsFlag (one_of (codes "finals") rows) options.finals
     × IsNumberOr 0 (one_of (codes "MOST") rows) options.lazy
     × IsNumberOr 512 (one_of (codes "MEMORY") rows) options.memory
+    × (option_map (λ text. text.now) options.values ≡ first_of (codes "VALUES") rows)
     × (option_map (λ text. text.now) options.only ≡ first_of (codes "REGIONS") rows)
 
 -- the request of `explore`

@@ -122,8 +122,9 @@ could go on. Unless it is said what fails, an exception or a deadlock does. If a
 is told, OUT gets its journal, and the status is 5; if none does, that is told, and it is 0.
 With --places there is no bound on events and preemptions: all schedules are searched.
 Orders that nobody can tell from each other are searched once, and places are remembered. With --fair,
---remember, --shard, --threads, --memory 0, or if --memory doesn't suffice, schedules are searched one
-by one. What is told is of all schedules in any case; with --only, of those that preempt nobody elsewhere.
+--remember, --shard, --memory 0, or if --memory doesn't suffice, schedules are searched one by one, by
+one thread unless --threads says more. What is told is of all schedules in any case; with --only, of
+those that preempt nobody elsewhere.
 
 Example, from the top of the repository:
   board asm examples/lost_update/racy.s build/racy.elf
@@ -578,7 +579,7 @@ fn with_search<'a>(alloc: Global, command: Command<'a>) -> Result<Command<'a>, N
             alloc,
             "THREADS",
             "threads",
-            "How many threads search, 1 to 64; one if left out",
+            "How many threads search, 1 to 64",
         ))?
         .arg(count(
             alloc,
@@ -595,6 +596,12 @@ fn with_search<'a>(alloc: Global, command: Command<'a>) -> Result<Command<'a>, N
             alloc,
             "finals",
             "With --places: if none fails, lists the consoles of all ends",
+        ))?
+        .arg(option(
+            alloc,
+            "VALUES",
+            "values",
+            "With --finals: lists the values of these words too, as count,x",
         ))?
         .arg(count(
             alloc,

@@ -20,6 +20,7 @@ use Rattle.brd_explore.specs.declared.condition.Term.TheVariants as term
 use Rattle.brd_explore.specs.declared.condition.Comparison.{Comparison}
 use Rattle.brd_explore.specs.declared.condition.Comparison.TheVariants.{Less, AtMost, More, AtLeast, Same, Other}
 use Rattle.brd_explore.specs.declared.condition.Condition.{Condition}
+use Rattle.brd_explore.specs.declared.wanted.Ending.{Ending}
 use Rattle.brd_explore.specs.declared.wanted.Failure.{Failure}
 use Rattle.brd_explore.specs.declared.wanted.Failure.TheVariants as failure
 use Rattle.brd_explore.specs.declared.wanted.Wanted.{Wanted}
@@ -80,6 +81,17 @@ abbrev pub is_between : ℕ → ℕ → Option ℕ → Bool
 is_between least most None = false
 is_between least most (Some word) = nat_le least word && nat_le word most
 
+-- words have these values, each in its place
+abbrev pub are_values : BoardState → List ℕ → List ℕ → Bool
+are_values b [] [] = true
+are_values b [] (value ∷ values) = false
+are_values b (address ∷ words) [] = false
+are_values b (address ∷ words) (value ∷ values) = is_value value (word_of b address) && are_values b words values
+
+-- a board is such an end: it has this console, and words have these values
+abbrev pub is_ending : BoardState → List ℕ → Ending → Bool
+is_ending b words ending = bytes_eq b.kernel.console ending.console && are_values b words ending.values
+
 -- what a term is worth: a number, or the word at an address, where RAM has it
 abbrev pub worth : BoardState → Term → Option ℕ
 worth b (term.Number number) = Some number
@@ -134,11 +146,11 @@ fails_by_now b (failure.Outside address least most) = not (is_between least most
 fails_by_now b (failure.Holds condition) = holds b condition
 fails_by_now b failure.On = false
 fails_by_now b failure.Ended = false
-fails_by_now b (failure.Unlisted texts) = false
+fails_by_now b (failure.Unlisted words finals) = false
 fails_by_now b (failure.At address) = some_below 9 (λ cpu. is_at address (registers_of b cpu))
 
--- A board shows a failure where it is the last one: the console lacks something, or is none of those that it may be, a
--- word has another value, the board is on, or there is to be no end.
+-- A board shows a failure where it is the last one: the console lacks something, a word has another value, the board is
+-- on, there is to be no end, or the board is none of the ends that there may be.
 unfoldable pub fails_at_last : BoardState → Failure → Bool
 fails_at_last b failure.Exception = false
 fails_at_last b failure.Deadlock = false
@@ -148,7 +160,7 @@ fails_at_last b (failure.Outside address least most) = false
 fails_at_last b (failure.Holds condition) = false
 fails_at_last b failure.On = not b.kernel.off
 fails_at_last b failure.Ended = true
-fails_at_last b (failure.Unlisted texts) = not (list_any (bytes_eq b.kernel.console) texts)
+fails_at_last b (failure.Unlisted words finals) = not (list_any (is_ending b words) finals)
 fails_at_last b (failure.At address) = false
 
 -- A board shows one of the failures.

@@ -16,4 +16,4 @@ pub use condition::{Comparison, Condition, Term};
 pub use search::{Counts, Found, Halt, Nobody, Watch, find};
 pub use shard::{Shard, find_in_shard};
 pub use shrinking::{fails, shrink};
-pub use wanted::{Failure, Wanted, is_at_rest, is_cut, is_end, some_are_due};
+pub use wanted::{Ending, Failure, Wanted, is_at_rest, is_cut, is_end, some_are_due};

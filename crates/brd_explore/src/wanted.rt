@@ -1,6 +1,6 @@
 //! What of a board is a failure, by now or at the end.
 
-ghost use Rattle.std.specs.Prelude.{◌≡◌, ◌⊎◌, true, false, not, bytes_eq, option_map, IfOk, OnOk};
+ghost use Rattle.std.specs.Prelude.{◌≡◌, ◌⊎◌, true, false, not, option_map, IfOk, OnOk};
 ghost use Rattle.std.specs.List.{list_any};
 ghost use Rattle.brd_board.specs.Board.{after};
 ghost use Rattle.brd_explore.specs.Failures.{
@@ -27,6 +27,8 @@ ghost use Rattle.brd_explore.specs.Failures.{
   has_fault,
   fails_by_now,
   fails_at_last,
+  are_values,
+  is_ending,
   ended,
   fails_now,
   first_so,
@@ -42,6 +44,7 @@ use brd_base::{List, NoMemory};
 use brd_board::{Board, Event, TaskId};
 use brd_exec::Context;
 use brd_word::word_of;
+use std::alloc::Global;
 
 /// Something that is not to happen.
 #[derive(Drop)]
@@ -75,13 +78,27 @@ pub enum Failure {
     On,
     /// There is an end.
     Ended,
-    /// At the end the console is none of these.
-    Unlisted(List<List<u8>>),
+    /// At the end the console and the words at these addresses are none of these.
+    Unlisted {
+        /// The addresses of the words.
+        words: List<u32>,
+        /// What an end may be.
+        finals: List<Ending>,
+    },
     /// The instruction at an address is the next one of who executes on some processor.
     At {
         /// The address.
         address: u32,
     },
+}
+
+/// What an end may be.
+#[derive(Drop)]
+pub struct Ending {
+    /// Its console.
+    pub console: List<u8>,
+    /// The values of some words, in their order.
+    pub values: List<u32>,
 }
 
 /// What is not to happen, and how a schedule goes on after its end, before its end is judged.
@@ -274,7 +291,7 @@ impl Failure {
             Failure::Holds(condition) => Ok(condition.holds(board)),
             Failure::At { address } => Ok(some_are_at(board, *address)),
             Failure::Word { .. } | Failure::On => Ok(false),
-            Failure::Ended | Failure::Unlisted(_) => Ok(false),
+            Failure::Ended | Failure::Unlisted { .. } => Ok(false),
         }
     }
 
@@ -290,21 +307,61 @@ impl Failure {
             Failure::Word { address, value } => !is_value(*value, word_at(board, *address)),
             Failure::On => !board.is_off(),
             Failure::Ended => true,
-            Failure::Unlisted(texts) => !is_listed(board.console(), texts.as_slice()),
+            Failure::Unlisted { words, finals } => {
+                !is_listed(board, words.as_slice(), finals.as_slice())
+            }
         }
     }
 }
 
-/// Whether a console is one of some texts.
-fn is_listed(console: &[u8], texts: &[List<u8>]) -> bool
-    ensures { result ≡ list_any (bytes_eq console.now) texts.now }
+impl Ending {
+    /// A copy of it.
+    pub fn try_copy(&self, alloc: Global) -> Result<Ending, NoMemory>
+        ensures { IfOk result (λ copy. copy ≡ self.now) }
+    {
+        let console = List::from_slice(alloc, self.console.as_slice())?;
+        let values = List::from_slice(alloc, self.values.as_slice())?;
+        Ok(Ending { console, values })
+    }
+
+    /// Whether a board is such an end: the console is this, and the words at these addresses have these values.
+    fn is_of(&self, board: &Board, words: &[u32]) -> bool
+        ensures { result ≡ is_ending board.now words.now self.now }
+    {
+        board.console() == self.console.as_slice()
+            && are_values(board, words, self.values.as_slice())
+    }
+}
+
+/// Whether a board is one of some ends, by its console and the words at some addresses.
+fn is_listed(board: &Board, words: &[u32], finals: &[Ending]) -> bool
+    ensures { result ≡ list_any (is_ending board.now words.now) finals.now }
 {
-    for text in texts {
-        if console == text.as_slice() {
+    for ending in finals {
+        if ending.is_of(board, words) {
             return true;
         }
     }
     false
+}
+
+/// Whether the words at some addresses have these values, each in its place.
+fn are_values(board: &Board, words: &[u32], values: &[u32]) -> bool
+    ensures { result ≡ are_values board.now words.now values.now }
+{
+    let mut rest = words;
+    let mut left = values;
+    'words: while let Some((address, others)) = rest.split_first() {
+        let Some((value, more)) = left.split_first() else {
+            return false;
+        };
+        if !is_value(*value, word_at(board, *address)) {
+            return false;
+        }
+        rest = others;
+        left = more;
+    }
+    left.is_empty()
 }
 
 /// Whether an exception was kept of some processor.

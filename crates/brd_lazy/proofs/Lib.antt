@@ -5,4 +5,5 @@ pub mod ChargeLemmas
 pub mod ScheduleLemmas
 pub mod FindLemmas
 pub mod SpotLemmas
+pub mod FoundLemmas
 pub mod LoopLemmas

@@ -19,8 +19,8 @@ use Rattle.brd_lazy.specs.declared.block.Block.TheVariants as block
 use Rattle.brd_lazy.specs.declared.visit.Tried.{Tried}
 use Rattle.brd_lazy.specs.declared.visit.Tried.TheVariants as tried
 use Rattle.brd_lazy.specs.declared.finding.Lazily.{Lazily}
-use Rattle.brd_lazy.specs.declared.finding.Round.{Round}
-use Rattle.brd_lazy.specs.declared.finding.Round.TheVariants as round
+use Rattle.brd_lazy.specs.declared.round.Round.{Round}
+use Rattle.brd_lazy.specs.declared.round.Round.TheVariants as round
 use Rattle.brd_lazy.specs.declared.finding.Lazily.TheVariants as lazily
 
 -- Blocks.
@@ -96,6 +96,11 @@ abbrev pub TriedSo : Sharing → List Place → Place → Event → Tried → Ty
 TriedSo by spots p event tried.Done = IsLinkSet p.board.links → HasTried by spots p event
 TriedSo by spots p event tried.Fails = ⊥
 TriedSo by spots p event _ = Unit {0}
+
+-- all events were tried there, for which something is left
+abbrev pub HasTriedAll : Sharing → List Event → List Place → Place → Tried → Type 0
+HasTriedAll by among spots p tried.Done = IsLinkSet p.board.links → HaveTried by among spots p (length among)
+HasTriedAll by among spots p _ = Unit {0}
 
 -- what a visit came to
 abbrev pub VisitedSo : Sharing → List Event → Wanted → List Place → Place → Tried → Type 0

@@ -4,3 +4,4 @@ pub mod Trees
 pub mod Lazy
 pub mod Spots
 pub mod Finding
+pub mod Finds

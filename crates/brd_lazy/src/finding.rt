@@ -3,18 +3,17 @@
 ghost use Rattle.std.specs.Prelude.{◌≡◌, IfErr, IfOk, true};
 ghost use Rattle.brd_explore.specs.Schedules.{IsAmong, start};
 ghost use Rattle.brd_explore.specs.Searching.{HaltsSo, IsFound};
-ghost use Rattle.brd_lazy.specs.Finding.{FoundSo, IsMore, RoundSo};
-ghost use Rattle.brd_reach.specs.Rounds.{sharing_for};
+ghost use Rattle.brd_lazy.specs.Finding.{FoundSo};
 
+use crate::round::{Round, visit_all};
 use crate::spots::Spots;
 use crate::stops::Stops;
-use crate::visit::{Tried, visit};
 use brd_base::NoMemory;
-use brd_blocks::Sharing;
 use brd_board::{Board, Event};
 use brd_explore::{Bounds, Halt, Wanted, Watch, did_nothing, stepper};
 use brd_reach::{Unknown, guarded, learn, owned_words, ram_len};
 use std::alloc::Global;
+use std::thread::Threads;
 
 /// Through how many places a search went, and what was left there.
 #[derive(Clone, Copy, Debug, PartialEq, Eq)]
@@ -38,27 +37,16 @@ pub enum Lazily {
     Unknown(Unknown),
 }
 
-/// What a round came to.
-#[derive(Clone, Copy, PartialEq, Eq)]
-pub(crate) enum Round {
-    /// No place fails, and there are no others.
-    Holds,
-    /// The place of this index fails.
-    Fails(usize),
-    /// At the place of this index, after so many steps of a processor, there is one that doesn't keep to who may touch
-    /// what, and who is mortal.
-    Strays(usize, u8, u32),
-    /// It isn't known.
-    Unknown(Unknown),
-}
-
 /// How often a search begins anew at most (own choice).
 const MOST_ROUNDS: u32 = 10_000;
 
 /// Searches the schedules of a board within bounds, of which each event is one of these, for one that fails: by the
-/// lazy ones. It goes through so many places at most. Who watches is told through how many it has gone.
-pub fn find_lazily<W: Watch>(
+/// lazy ones. It goes through so many places at most. Who watches is told through how many it has gone. So many threads
+/// of the host visit places, if there are many; what is found doesn't depend on that.
+pub fn find_lazily<T: Threads + Sync, W: Watch>(
+    rt: &T,
     alloc: Global,
+    threads: u32,
     board: &Board,
     bounds: Bounds,
     among: &[Event],
@@ -80,6 +68,9 @@ pub fn find_lazily<W: Watch>(
         let mut spots = Spots::new(alloc, board, bounds)?;
         let mut stops = Stops::none();
         match visit_all(
+            rt,
+            alloc,
+            threads,
             &mut spots,
             &mut stops,
             &sharing,
@@ -108,41 +99,6 @@ fn how_far(spots: &Spots, stops: Stops) -> Gone {
         stops,
         spare: spots.spare(),
     }
-}
-
-/// Visits places, and those to which events lead from them, until all have been visited or one fails; at most so many.
-fn visit_all<W: Watch>(
-    spots: &mut Spots,
-    stops: &mut Stops,
-    sharing: &Sharing,
-    words: &[u32],
-    among: &[Event],
-    wanted: &Wanted,
-    most: usize,
-    watch: &mut W,
-) -> Result<Round, Halt>
-    ensures more { IsMore spots.old spots.new }
-    ensures so { IfOk result (RoundSo (sharing_for sharing.now wanted.now) among.now wanted.now spots.new) }
-    ensures halts { IfErr result (HaltsSo W.may_stop) }
-{
-    for at in 0..most {
-        if at >= spots.len() {
-            return Ok(Round::Holds);
-        }
-        if !watch.tried(at as u64) {
-            return Err(Halt::Stopped);
-        }
-        match visit(spots, stops, at, sharing, words, among, wanted)? {
-            Tried::Done => {}
-            Tried::Fails => return Ok(Round::Fails(at)),
-            Tried::Strays(cpu, count) => return Ok(Round::Strays(at, cpu, count)),
-            Tried::Unknown(why) => return Ok(Round::Unknown(why)),
-        }
-    }
-    if spots.len() <= most {
-        return Ok(Round::Holds);
-    }
-    Ok(Round::Unknown(Unknown::Places))
 }
 
 /// The schedule that leads to the place of an index, if it fails.

@@ -6,8 +6,14 @@
 #![tactic(auto)]
 
 mod block;
+mod crew;
 mod finding;
+mod finds;
 pub mod laws;
+mod part;
+mod round;
+mod seats;
+mod settle;
 mod spots;
 mod stops;
 mod visit;

@@ -5,7 +5,7 @@ ghost use Rattle.std.specs.Prelude.{IfOk, IfSome, OnOk, OnErr};
 ghost use Rattle.brd_board.specs.Board.{BoardState as BoardOf, after};
 ghost use Rattle.brd_explore.specs.Schedules.{IsRicher, Place as PlaceOf, start};
 ghost use Rattle.brd_lazy.specs.Spots.{spot_of};
-ghost use Rattle.brd_lazy.specs.Finding.{IsKnown, IsMore};
+ghost use Rattle.brd_lazy.specs.Finding.{IsKnown};
 
 use brd_base::{List, NoMemory};
 use brd_board::{Board, Event};
@@ -87,6 +87,13 @@ impl Spots {
         self.boards.board(i)
     }
 
+    /// Makes a board that of the place of an index.
+    pub fn put(&self, i: usize, board: &mut Board) -> Result<(), NoMemory>
+        ensures { (p : PlaceOf) → slice_get self.now i ≡ Some p → OnOk result (board.new ≡ p.board) }
+    {
+        self.boards.put(i, board)
+    }
+
     /// What the place of an index has beside its board, if there is one.
     pub fn margin(&self, i: usize) -> Option<Margin>
         ensures { (p : PlaceOf) → slice_get self.now i ≡ Some p →
@@ -114,40 +121,22 @@ impl Spots {
         self.boards.mark_of(board, NOTHING, memory) ^ mix(last, margin.left.owed)
     }
 
-    /// Adds a place, unless one that was added with its mark covers it: the board to which one event n times leads from
-    /// the place of an index.
-    pub fn note(
-        &mut self,
-        from: usize,
-        event: Event,
-        count: u32,
+    /// Whether a place that was added with this mark covers one. The board in `spare` may become another one.
+    pub fn is_known(
+        &self,
         board: &Board,
         margin: Margin,
         mark: u64,
-    ) -> Result<(), NoMemory>
-        requires { from < length self.old }
-        ensures more { IsMore self.old self.new }
-        ensures known { (p : PlaceOf) → slice_get self.old from ≡ Some p →
-            board.now ≡ after p.board (replicate count event) →
-            OnOk result (IsKnown self.new (spot_of board.now margin)) }
-    {
-        if self.is_known(board, margin, mark)? {
-            return Ok(());
-        }
-        self.add(from, event, count, margin, mark)
-    }
-
-    /// Whether a place that was added with this mark covers one.
-    fn is_known(&mut self, board: &Board, margin: Margin, mark: u64) -> Result<bool, NoMemory>
-        ensures same { self.new ≡ self.old }
-        ensures known { IfOk result (λ known. known ≡ true → IsKnown self.old (spot_of board.now margin)) }
+        spare: &mut Board,
+    ) -> Result<bool, NoMemory>
+        ensures { IfOk result (λ known. known ≡ true → IsKnown self.now (spot_of board.now margin)) }
     {
         let mut at = self.boards.first(mark);
         for _ in 0..self.margins.len() {
             let Some(i) = at else {
                 return Ok(false);
             };
-            if self.covers(i, board, margin)? {
+            if self.covers(i, board, margin, spare)? {
                 return Ok(true);
             }
             at = self.boards.next(i, mark);
@@ -156,18 +145,31 @@ impl Spots {
     }
 
     /// Whether the place of an index covers one.
-    fn covers(&mut self, i: usize, board: &Board, margin: Margin) -> Result<bool, NoMemory>
-        ensures same { self.new ≡ self.old }
-        ensures known { IfOk result (λ covers. covers ≡ true → IsKnown self.old (spot_of board.now margin)) }
+    fn covers(
+        &self,
+        i: usize,
+        board: &Board,
+        margin: Margin,
+        spare: &mut Board,
+    ) -> Result<bool, NoMemory>
+        ensures { IfOk result (λ covers. covers ≡ true → IsKnown self.now (spot_of board.now margin)) }
     {
         if i >= self.margins.len() || !is_enough(self.margins[i], margin) {
             return Ok(false);
         }
-        self.boards.has_board(i, board)
+        self.boards.is_board(i, board, spare)
+    }
+
+    /// Whether a place of this index or a later one was added with this mark.
+    pub fn has_since(&self, mark: u64, since: usize) -> bool {
+        match self.boards.first(mark) {
+            Some(last) => last >= since,
+            None => false,
+        }
     }
 
     /// Adds the place to which one event n times leads from the place of an index. A refusal leaves all as they are.
-    fn add(
+    pub fn add(
         &mut self,
         from: usize,
         event: Event,

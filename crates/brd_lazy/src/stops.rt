@@ -43,6 +43,13 @@ impl Stops {
         self.out_of_ticks = self.out_of_ticks.saturating_add(1);
     }
 
+    /// They stop at other places, too.
+    pub(crate) fn add(&mut self, more: Stops) {
+        self.ends = self.ends.saturating_add(more.ends);
+        self.out_of_events = self.out_of_events.saturating_add(more.out_of_events);
+        self.out_of_ticks = self.out_of_ticks.saturating_add(more.out_of_ticks);
+    }
+
     /// One lacks an event.
     pub(crate) fn cut(&mut self) {
         self.out_of_events = self.out_of_events.saturating_add(1);

@@ -1,21 +1,25 @@
 //! Visits to places: each event that may come there is tried.
 
-ghost use Rattle.std.specs.Prelude.{◌≡◌, ◌<◌, suc, length, slice_get, IfOk, OnOk, Some, true, false};
+ghost use Rattle.std.specs.Prelude.{◌≡◌, ◌<◌, suc, slice_get, IfOk, OnOk, Some, true, false};
 ghost use Rattle.brd_board.specs.declared.event.Event.TheVariants.{Step};
 ghost use Rattle.brd_board.specs.Board.{happens};
 ghost use Rattle.brd_explore.specs.Schedules.{Place as PlaceOf, does, next, is_left};
 ghost use Rattle.brd_lazy.specs.Blocks.{after_steps, end_of};
 ghost use Rattle.brd_lazy.specs.Spots.{spot_of};
-ghost use Rattle.brd_lazy.specs.Finding.{IsKnown, IsMore, TriedSo, VisitedSo};
+ghost use Rattle.brd_lazy.specs.Finding.{HasTriedAll, IsKnown, IsMore, TriedSo, VisitedSo};
+ghost use Rattle.brd_lazy.specs.Finds.{with_finds};
 ghost use Rattle.brd_reach.specs.Rounds.{sharing_for};
 
 use crate::block::{Block, go};
+use crate::finds::{Find, note};
+use crate::seats::Seats;
 use crate::spots::{Margin, Spots};
 use crate::stops::Stops;
 use brd_base::NoMemory;
 use brd_blocks::{Sharing, stands_well};
 use brd_board::{Board, Event};
 use brd_explore::{Bounds, Wanted, did_nothing, stepper};
+use brd_places::copy_over;
 use brd_reach::{Unknown, memory_of};
 
 /// What was tried at a place came to.
@@ -31,37 +35,75 @@ pub(crate) enum Tried {
     Unknown(Unknown),
 }
 
-/// Visits the place of an index: looks whether it fails, and tries all events that may come there. `words` are the
-/// addresses of the words by whose values places are told from each other at first sight. Where schedules stop is
-/// counted.
+/// Visits the place of an index: looks whether it fails, and tries all events that may come there. The places to which
+/// they lead are noted, but for those that are known. `words` are the addresses of the words by whose values places are
+/// told from each other at first sight. Where schedules stop is counted.
 pub(crate) fn visit(
-    spots: &mut Spots,
+    spots: &Spots,
+    finds: &mut Vec<Find>,
     stops: &mut Stops,
     at: usize,
     sharing: &Sharing,
     words: &[u32],
     among: &[Event],
     wanted: &Wanted,
+    seats: &mut Seats,
 ) -> Result<Tried, NoMemory>
-    requires { at < length spots.old }
-    ensures more { IsMore spots.old spots.new }
-    ensures so { (p : PlaceOf) → slice_get spots.old at ≡ Some p →
-        IfOk result (VisitedSo (sharing_for sharing.now wanted.now) among.now wanted.now spots.new p) }
+    ensures more { IsMore (with_finds spots.now finds.old.items) (with_finds spots.now finds.new.items) }
+    ensures so { (p : PlaceOf) → slice_get spots.now at ≡ Some p →
+        IfOk result (VisitedSo (sharing_for sharing.now wanted.now) among.now wanted.now
+        (with_finds spots.now finds.new.items) p) }
 {
-    let board = spots.board(at)?;
+    spots.put(at, &mut seats.here)?;
     let Some(margin) = spots.margin(at) else {
         return Ok(Tried::Unknown(Unknown::Waits));
     };
-    if wanted.fails_at(&board, margin.left)? {
+    if wanted.fails_at(&seats.here, margin.left)? {
         return Ok(Tried::Fails);
     }
-    stops.come(&board, margin.left)?;
+    stops.come(&seats.here, margin.left)?;
+    try_all(
+        spots,
+        finds,
+        stops,
+        at,
+        &seats.here,
+        margin,
+        sharing,
+        words,
+        among,
+        wanted,
+        &mut seats.last,
+        &mut seats.spare,
+    )
+}
+
+/// Tries all events that may come at the place of an index, for which something is left there.
+fn try_all(
+    spots: &Spots,
+    finds: &mut Vec<Find>,
+    stops: &mut Stops,
+    at: usize,
+    board: &Board,
+    margin: Margin,
+    sharing: &Sharing,
+    words: &[u32],
+    among: &[Event],
+    wanted: &Wanted,
+    last: &mut Board,
+    spare: &mut Board,
+) -> Result<Tried, NoMemory>
+    ensures more { IsMore (with_finds spots.now finds.old.items) (with_finds spots.now finds.new.items) }
+    ensures so { slice_get spots.now at ≡ Some (spot_of board.now margin) →
+        IfOk result (HasTriedAll (sharing_for sharing.now wanted.now) among.now
+        (with_finds spots.now finds.new.items) (spot_of board.now margin)) }
+{
     for event in among {
         if !margin.left.affords(margin.last, *event) {
             continue;
         }
         match try_event(
-            spots, stops, at, &board, margin, sharing, words, wanted, *event,
+            spots, finds, stops, at, board, margin, sharing, words, wanted, *event, last, spare,
         )? {
             Tried::Done => {}
             Tried::Fails => return Ok(Tried::Fails),
@@ -74,7 +116,8 @@ pub(crate) fn visit(
 
 /// Tries an event at the place of an index, for which something is left there.
 fn try_event(
-    spots: &mut Spots,
+    spots: &Spots,
+    finds: &mut Vec<Find>,
     stops: &mut Stops,
     at: usize,
     board: &Board,
@@ -83,20 +126,24 @@ fn try_event(
     words: &[u32],
     wanted: &Wanted,
     event: Event,
+    last: &mut Board,
+    spare: &mut Board,
 ) -> Result<Tried, NoMemory>
-    requires { slice_get spots.old at ≡ Some (spot_of board.now margin) }
-    ensures more { IsMore spots.old spots.new }
-    ensures so { IfOk result
-        (TriedSo (sharing_for sharing.now wanted.now) spots.new (spot_of board.now margin) event) }
+    ensures more { IsMore (with_finds spots.now finds.old.items) (with_finds spots.now finds.new.items) }
+    ensures so { slice_get spots.now at ≡ Some (spot_of board.now margin) →
+        IfOk result (TriedSo (sharing_for sharing.now wanted.now) (with_finds spots.now finds.new.items)
+        (spot_of board.now margin) event) }
 {
     match event {
-        Event::Step(cpu) => try_step(spots, stops, at, board, margin, sharing, words, wanted, cpu),
+        Event::Step(cpu) => try_step(
+            spots, finds, stops, at, board, margin, sharing, words, wanted, cpu, last, spare,
+        ),
         Event::Tick => {
-            try_other(spots, at, board, margin, words, event)?;
+            try_other(spots, finds, at, board, margin, words, event, last, spare)?;
             Ok(Tried::Done)
         }
         Event::Raise(_) => {
-            try_other(spots, at, board, margin, words, event)?;
+            try_other(spots, finds, at, board, margin, words, event, last, spare)?;
             Ok(Tried::Done)
         }
     }
@@ -104,7 +151,8 @@ fn try_event(
 
 /// Tries a block of a processor.
 fn try_step(
-    spots: &mut Spots,
+    spots: &Spots,
+    finds: &mut Vec<Find>,
     stops: &mut Stops,
     at: usize,
     board: &Board,
@@ -113,17 +161,19 @@ fn try_step(
     words: &[u32],
     wanted: &Wanted,
     cpu: u8,
+    last: &mut Board,
+    spare: &mut Board,
 ) -> Result<Tried, NoMemory>
-    requires { slice_get spots.old at ≡ Some (spot_of board.now margin) }
-    ensures more { IsMore spots.old spots.new }
-    ensures so { IfOk result
-        (TriedSo (sharing_for sharing.now wanted.now) spots.new (spot_of board.now margin) (Step cpu)) }
+    ensures more { IsMore (with_finds spots.now finds.old.items) (with_finds spots.now finds.new.items) }
+    ensures so { slice_get spots.now at ≡ Some (spot_of board.now margin) →
+        IfOk result (TriedSo (sharing_for sharing.now wanted.now) (with_finds spots.now finds.new.items)
+        (spot_of board.now margin) (Step cpu)) }
 {
     if cpu == 0 || cpu > 8 || !stands_well(board, cpu) {
         return Ok(Tried::Unknown(Unknown::Waits));
     }
-    let mut last = board.try_copy()?;
-    match go(sharing, wanted, &mut last, cpu, margin.left.events)? {
+    copy_over(last, board)?;
+    match go(sharing, wanted, last, cpu, margin.left.events)? {
         Block::Idle => {
             if does_nothing(last, cpu) {
                 return Ok(Tried::Done);
@@ -131,11 +181,20 @@ fn try_step(
             Ok(Tried::Unknown(Unknown::Waits))
         }
         Block::Alone => {
-            note_one(spots, at, margin, words, Event::Step(cpu), &last)?;
+            note_one(
+                spots,
+                finds,
+                at,
+                margin,
+                words,
+                Event::Step(cpu),
+                last,
+                spare,
+            )?;
             Ok(Tried::Done)
         }
         Block::Ends(count) => {
-            note_block(spots, at, margin, words, cpu, count, &last)?;
+            note_block(spots, finds, at, margin, words, cpu, count, last, spare)?;
             Ok(Tried::Done)
         }
         Block::Cut => {
@@ -147,73 +206,84 @@ fn try_step(
     }
 }
 
-/// Whether the next step of a processor does nothing.
-fn does_nothing(board: Board, cpu: u8) -> bool
-    ensures { result ≡ true → does board (Step cpu) ≡ false }
+/// Whether the next step of a processor does nothing. It is done.
+fn does_nothing(board: &mut Board, cpu: u8) -> bool
+    ensures { result ≡ true → does board.old (Step cpu) ≡ false }
 {
-    let mut board = board;
     did_nothing(board.event_apart(Event::Step(cpu)))
 }
 
 /// Tries a tick, or a raise.
 fn try_other(
-    spots: &mut Spots,
+    spots: &Spots,
+    finds: &mut Vec<Find>,
     at: usize,
     board: &Board,
     margin: Margin,
     words: &[u32],
     event: Event,
+    last: &mut Board,
+    spare: &mut Board,
 ) -> Result<(), NoMemory>
-    requires { slice_get spots.old at ≡ Some (spot_of board.now margin) }
-    ensures more { IsMore spots.old spots.new }
-    ensures known { does board.now event ≡ true →
-        OnOk result (IsKnown spots.new (next (spot_of board.now margin) event)) }
+    ensures more { IsMore (with_finds spots.now finds.old.items) (with_finds spots.now finds.new.items) }
+    ensures known { slice_get spots.now at ≡ Some (spot_of board.now margin) → does board.now event ≡ true →
+        OnOk result (IsKnown (with_finds spots.now finds.new.items) (next (spot_of board.now margin) event)) }
 {
-    let mut last = board.try_copy()?;
+    copy_over(last, board)?;
     if did_nothing(last.event_apart(event)) {
         return Ok(());
     }
-    note_one(spots, at, margin, words, event, &last)
+    note_one(spots, finds, at, margin, words, event, last, spare)
 }
 
 /// Adds the place after one event at the place of an index, unless it is known.
 fn note_one(
-    spots: &mut Spots,
+    spots: &Spots,
+    finds: &mut Vec<Find>,
     at: usize,
     margin: Margin,
     words: &[u32],
     event: Event,
     board: &Board,
+    spare: &mut Board,
 ) -> Result<(), NoMemory>
-    requires { at < length spots.old }
-    ensures more { IsMore spots.old spots.new }
-    ensures known { (p : PlaceOf) → slice_get spots.old at ≡ Some p → p ≡ spot_of p.board margin →
-        board.now ≡ (happens p.board event).board → OnOk result (IsKnown spots.new (next p event)) }
+    ensures more { IsMore (with_finds spots.now finds.old.items) (with_finds spots.now finds.new.items) }
+    ensures known { (p : PlaceOf) → slice_get spots.now at ≡ Some p → p ≡ spot_of p.board margin →
+        board.now ≡ (happens p.board event).board →
+        OnOk result (IsKnown (with_finds spots.now finds.new.items) (next p event)) }
 {
     let rest = Margin {
         left: margin.left.spent(margin.last, event),
         last: stepper(board, margin.last, event),
     };
-    let mark = spots.mark_of(board, rest, memory_of(board, words));
-    spots.note(at, event, 1, board, rest, mark)
+    let find = Find {
+        from: at,
+        event,
+        count: 1,
+        margin: rest,
+        mark: spots.mark_of(board, rest, memory_of(board, words)),
+    };
+    note(spots, finds, find, board, spare)
 }
 
 /// Adds the place after a block at the place of an index, unless it is known: so many instructions that nobody else can
 /// see, and one that others may see.
 fn note_block(
-    spots: &mut Spots,
+    spots: &Spots,
+    finds: &mut Vec<Find>,
     at: usize,
     margin: Margin,
     words: &[u32],
     cpu: u8,
     count: u32,
     board: &Board,
+    spare: &mut Board,
 ) -> Result<(), NoMemory>
-    requires within { at < length spots.old }
-    requires few { count < margin.left.events }
-    ensures more { IsMore spots.old spots.new }
-    ensures known { (p : PlaceOf) → slice_get spots.old at ≡ Some p → p ≡ spot_of p.board margin →
-        board.now ≡ after_steps p.board cpu (suc count) → OnOk result (IsKnown spots.new (end_of p cpu count)) }
+    requires { count < margin.left.events }
+    ensures more { IsMore (with_finds spots.now finds.old.items) (with_finds spots.now finds.new.items) }
+    ensures known { (p : PlaceOf) → slice_get spots.now at ≡ Some p → p ≡ spot_of p.board margin →
+        board.now ≡ after_steps p.board cpu (suc count) →
+        OnOk result (IsKnown (with_finds spots.now finds.new.items) (end_of p cpu count)) }
 {
     let event = Event::Step(cpu);
     let one = margin.left.spent(margin.last, event);
@@ -224,6 +294,12 @@ fn note_block(
         },
         last: stepper(board, margin.last, event),
     };
-    let mark = spots.mark_of(board, rest, memory_of(board, words));
-    spots.note(at, event, count + 1, board, rest, mark)
+    let find = Find {
+        from: at,
+        event,
+        count: count + 1,
+        margin: rest,
+        mark: spots.mark_of(board, rest, memory_of(board, words)),
+    };
+    note(spots, finds, find, board, spare)
 }

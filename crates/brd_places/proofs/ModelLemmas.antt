@@ -1,6 +1,6 @@
 -- What the fields of places say of the list that they are.
 use Rattle.std.proofs.Common.{◌≡◌, ℕ, List, [], ◌∷◌, ◌++◌, refl, sym, ap, subst, ◌∙◌, arith}
-use Rattle.std.specs.Prelude.{slice_get, Some, Bool, true, Decides, IfOk, Result, Ok, Err}
+use Rattle.std.specs.Prelude.{slice_get, Some, Bool, true, Decides, IfOk, OnOk, Result, Ok, Err}
 use Rattle.brd_mem.specs.Memory.{size_of}
 use Rattle.brd_board.specs.declared.event.Event.{Event}
 use Rattle.brd_board.specs.Board.{BoardState, after}
@@ -16,6 +16,12 @@ pub place_board : (start board : BoardState) (entries : List Entry) (places : Li
     board ≡ place.board
 place_board start board entries places i place view is made =
     made ∙ board-got start (places_of start entries) i place (subst (λ (ps : List Place). slice_get ps i ≡ Some place) (sym view) is)
+
+pub place_put : {E : Type 0} (start board : BoardState) (entries : List Entry) (places : List Place) (i : ℕ) (place : Place)
+    (result : Result Unit E) → places_of start entries ≡ places → slice_get places i ≡ Some place →
+    OnOk result (board ≡ board_at start (places_of start entries) i) → OnOk result (board ≡ place.board)
+place_put start board entries places i place (Ok done) view is made = place_board start board entries places i place view is made
+place_put start board entries places i place (Err fault) view is made = tt
 
 pub there_same : {E : Type 0} (start board : BoardState) (entries : List Entry) (places : List Place) (i : ℕ) (entry : Entry) (left : Left)
     (found : Result Bool E) → places_of start entries ≡ places → Some entry ≡ slice_get entries i → entry.left ≡ left →

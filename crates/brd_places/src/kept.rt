@@ -60,6 +60,25 @@ pub(crate) fn put_back(
     Ok(())
 }
 
+/// Makes a board that of the place of an index, as `put_back` does: in place if its RAM has the start's size and order,
+/// else anew.
+pub(crate) fn put_in(
+    start: &Board,
+    entries: &[Entry],
+    kept: &[Kept],
+    i: usize,
+    board: &mut Board,
+) -> Result<(), NoMemory>
+    requires { AreKept start.now entries.now kept.now }
+    ensures { OnOk result (board.new ≡ board_at start.now (places_of start.now entries.now) i) }
+{
+    if board.is_alike(start) {
+        return put_back(start, entries, kept, i, board);
+    }
+    *board = made(start, entries, kept, i)?;
+    Ok(())
+}
+
 /// The board of the place of an index, made anew by one copy; the start's if there is none.
 #[tactic(auto, using(crate::proofs::StepLemmas::none_board, crate::proofs::StepLemmas::came_other, crate::proofs::StepLemmas::came_earlier))]
 pub(crate) fn made(

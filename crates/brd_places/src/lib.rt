@@ -11,8 +11,10 @@ mod left;
 mod marks;
 mod path;
 mod places;
+mod seat;
 mod table;
 
 pub use left::Left;
 pub use marks::mix;
 pub use places::Places;
+pub use seat::copy_over;

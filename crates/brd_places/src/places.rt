@@ -6,7 +6,7 @@ ghost use Rattle.brd_board.specs.Board.{after};
 ghost use Rattle.brd_places.specs.Places.{Place, place_after};
 
 use crate::entry::{Entry, entry_at, first_entry};
-use crate::kept::{Kept, kept_next, made, put, put_back, since_after};
+use crate::kept::{Kept, kept_next, made, put, put_back, put_in, since_after};
 use crate::left::Left;
 use crate::marks::Marks;
 use crate::path::path_to;
@@ -111,6 +111,30 @@ impl Places {
             i,
         )?;
         Ok(board)
+    }
+
+    /// Makes a board that of the place of an index. It takes no memory for RAM if the board's has the size and order of
+    /// the places' RAM.
+    pub fn put(&self, i: usize, board: &mut Board) -> Result<(), NoMemory>
+        ensures { (place : Place) → slice_get self.now i ≡ Some place → OnOk result (board.new ≡ place.board) }
+    {
+        put_in(
+            &self.start,
+            self.entries.as_slice(),
+            self.kept.as_slice(),
+            i,
+            board,
+        )
+    }
+
+    /// Whether the place of an index is this board, whatever is left there. The board in `spare` may become another
+    /// one.
+    pub fn is_board(&self, i: usize, board: &Board, spare: &mut Board) -> Result<bool, NoMemory>
+        ensures { (place : Place) → slice_get self.now i ≡ Some place →
+            IfOk result (λ is. is ≡ true → place.board ≡ board.now) }
+    {
+        self.put(i, spare)?;
+        Ok(spare.same(board))
     }
 
     /// The mark of a board, and of what is left: it depends on nothing else but on a number for the board's memory,

@@ -28,11 +28,12 @@ use Rattle.brd_explore.specs.declared.bounds.Bounds.{Bounds}
 use Rattle.brd_explore.specs.declared.condition.Condition.{Condition}
 use Rattle.brd_explore.specs.declared.condition.Term.{Term}
 use Rattle.brd_explore.specs.declared.condition.Term.TheVariants as term
+use Rattle.brd_explore.specs.declared.wanted.Ending.{Ending}
 use Rattle.brd_explore.specs.declared.wanted.Failure.{Failure}
 use Rattle.brd_explore.specs.declared.wanted.Failure.TheVariants as failure
 use Rattle.brd_explore.specs.declared.wanted.Wanted.{Wanted}
 use Rattle.brd_explore.specs.Schedules.{does}
-use Rattle.brd_explore.specs.Failures.{some_below, nobody_goes, waits, has_due, is_due, some_are_due, is_stuck, word_in, word_of, is_value, is_between, begins_with, is_at, fails_by_now, fails_at_last, fails_now, lacks, is_at_rest, is_end, is_cut, fails_fairly, goes_fairly, fails_at}
+use Rattle.brd_explore.specs.Failures.{some_below, nobody_goes, waits, has_due, is_due, some_are_due, is_stuck, word_in, word_of, is_value, is_between, are_values, is_ending, begins_with, is_at, fails_by_now, fails_at_last, fails_now, lacks, is_at_rest, is_end, is_cut, fails_fairly, goes_fairly, fails_at}
 use Rattle.brd_frames.specs.Agents as agents
 use Rattle.brd_frames.specs.Agents.{Agent, agent_by, context_in, with_context_in}
 use Rattle.brd_frames.specs.Touching.{stores, changed, put_at}
@@ -325,6 +326,26 @@ unfolding holds
 holds-alike by b c condition it shared = λ i.
     is_so condition.order (sum-alike by b c condition.left it shared.left i) (sum-alike by b c condition.right it shared.right i)
 
+values-alike : (by : Sharing) (b c : BoardState) (words values : List ℕ) → Alike by b c → All (IsSharedWord by) words →
+    are_values c words values ≡ are_values b words values
+values-alike by b c [] [] it shared = refl
+values-alike by b c [] (value ∷ values) it shared = refl
+values-alike by b c (address ∷ words) [] it shared = refl
+values-alike by b c (address ∷ words) (value ∷ values) it shared = λ i.
+    is_value value (word-alike by b c address it (All-head (IsSharedWord by) address words shared) i)
+    && values-alike by b c words values it (All-tail (IsSharedWord by) address words shared) i
+
+ending-alike : (by : Sharing) (b c : BoardState) (words : List ℕ) (ending : Ending) → Alike by b c → All (IsSharedWord by) words →
+    is_ending c words ending ≡ is_ending b words ending
+ending-alike by b c words ending it shared = λ i.
+    bytes_eq (it.console i) ending.console && values-alike by b c words ending.values it shared i
+
+listed-alike : (by : Sharing) (b c : BoardState) (words : List ℕ) (finals : List Ending) → Alike by b c → All (IsSharedWord by) words →
+    list_any (is_ending c words) finals ≡ list_any (is_ending b words) finals
+listed-alike by b c words [] it shared = refl
+listed-alike by b c words (ending ∷ finals) it shared = λ i.
+    ending-alike by b c words ending it shared i || listed-alike by b c words finals it shared i
+
 or-so : (w x y z : Bool) → (w ≡ true → y ≡ true) → (x ≡ true → z ≡ true) → (w || x) ≡ true → (y || z) ≡ true
 or-so true x true z one two is = refl
 or-so true x false z one two is = absurd (false≢true (one refl))
@@ -349,7 +370,7 @@ now-fails by b c (failure.Outside address least most) it guarded seen fails =
 now-fails by b c (failure.Holds condition) it guarded seen fails = sym (holds-alike by b c condition it guarded) ∙ fails
 now-fails by b c failure.On it guarded seen fails = fails
 now-fails by b c failure.Ended it guarded seen fails = fails
-now-fails by b c (failure.Unlisted texts) it guarded seen fails = fails
+now-fails by b c (failure.Unlisted words finals) it guarded seen fails = fails
 now-fails by b c (failure.At address) it guarded seen fails =
     some-so 9 (λ cpu. is_at address (registers_of b cpu)) (λ cpu. is_at address (registers_of c cpu))
     (λ cpu. it.stands cpu address seen) fails
@@ -366,8 +387,7 @@ last-alike by b c (failure.Holds condition) it guarded = refl
 last-alike by b c (failure.At address) it guarded = refl
 last-alike by b c failure.On it guarded = ap not it.off
 last-alike by b c failure.Ended it guarded = refl
-last-alike by b c (failure.Unlisted texts) it guarded =
-    ap (λ console. not (list_any (bytes_eq console) texts)) it.console
+last-alike by b c (failure.Unlisted words finals) it guarded = ap not (listed-alike by b c words finals it guarded)
 
 any-same : {X : Type 0} (P : X → Type 0) (one two : X → Bool) (xs : List X) → All P xs → ((x : X) → P x → two x ≡ one x) →
     list_any two xs ≡ list_any one xs

@@ -43,6 +43,9 @@ term-stays old new (term.Word address) stays it = word-stays old new address sta
 pub terms-stay : (old new : Sharing) (ts : List Term) → StaysShared old new → All (IsSharedTerm old) ts → All (IsSharedTerm new) ts
 terms-stay old new ts stays all = λ k d less. term-stays old new (get_or ts k d) stays (all k d less)
 
+pub words-stay : (old new : Sharing) (words : List ℕ) → StaysShared old new → All (IsSharedWord old) words → All (IsSharedWord new) words
+words-stay old new words stays all = λ k d less. word-stays old new (get_or words k d) stays (all k d less)
+
 pub guarded-stays : (old new : Sharing) (it : Failure) → StaysShared old new → IsGuarded old it → IsGuarded new it
 guarded-stays old new failure.Exception stays it = tt
 guarded-stays old new failure.Deadlock stays it = tt
@@ -53,7 +56,7 @@ guarded-stays old new (failure.Holds condition) stays it =
     record { left = terms-stay old new condition.left stays it.left; right = terms-stay old new condition.right stays it.right }
 guarded-stays old new failure.On stays it = tt
 guarded-stays old new failure.Ended stays it = tt
-guarded-stays old new (failure.Unlisted texts) stays it = tt
+guarded-stays old new (failure.Unlisted words finals) stays it = words-stay old new words stays it
 guarded-stays old new (failure.At address) stays it = tt
 
 pub all-stay : (old new : Sharing) (failures : List Failure) → StaysShared old new → All (IsGuarded old) failures → All (IsGuarded new) failures
@@ -98,7 +101,7 @@ seen-one known wanted (failure.Outside address least most) so = tt
 seen-one known wanted (failure.Holds condition) so = tt
 seen-one known wanted failure.On so = tt
 seen-one known wanted failure.Ended so = tt
-seen-one known wanted (failure.Unlisted texts) so = tt
+seen-one known wanted (failure.Unlisted words finals) so = tt
 seen-one known wanted (failure.At address) so = so address (eq-eqb address address refl)
 
 or-first : (x y : Bool) → x ≡ true → (x || y) ≡ true
@@ -169,3 +172,13 @@ pub term-after : (old new : Known) (terms : List Term) (i : ℕ) (other : Term) 
 term-after old new terms i other before stays here within =
     term-next old new terms i (get_or terms i other) before stays here (get_or_default terms i other (get_or terms i other) within)
     within
+
+-- the same of words
+pub word-after : (old new : Known) (words : List ℕ) (i other : ℕ) →
+    ((k d : ℕ) → k < i → IsSharedWord (sharing_of old) (get_or words k d)) → StayShared old new →
+    IsSharedWord (sharing_of new) (get_or words i other) → i < length words → (k d : ℕ) → k < i + 1 →
+    IsSharedWord (sharing_of new) (get_or words k d)
+word-after old new words i other before stays here within =
+    next (IsSharedWord (sharing_of old)) (IsSharedWord (sharing_of new)) words i (get_or words i other)
+    (λ x. word-stays (sharing_of old) (sharing_of new) x stays) before here
+    (get_or_default words i other (get_or words i other) within) within

@@ -1,11 +1,12 @@
--- Whether a schedule comes to an end, and what the console is there.
-use Rattle.std.specs.Prelude.{◌≡◌, ℕ, ◌-◌, true, false, List, [], ◌∷◌, bytes_eq}
+-- Whether a schedule comes to an end, and what the console and some words are there.
+use Rattle.std.specs.Prelude.{◌≡◌, ℕ, ◌-◌, true, false, List, [], ◌∷◌}
 use Rattle.std.specs.List.{fold, list_any}
 use Rattle.brd_board.specs.declared.event.Event.{Event}
 use Rattle.brd_board.specs.declared.event.Event.TheVariants.{Step, Tick, Raise}
 use Rattle.brd_board.specs.Board.{BoardState}
-use Rattle.brd_explore.specs.Failures.{is_end}
+use Rattle.brd_explore.specs.Failures.{is_end, is_ending}
 use Rattle.brd_explore.specs.Schedules.{IsWithin, Place, place_after, start}
+use Rattle.brd_explore.specs.declared.wanted.Ending.{Ending}
 use Rattle.brd_explore.specs.declared.wanted.Failure.TheVariants as failure
 use Rattle.brd_explore.specs.declared.wanted.Wanted.{Wanted}
 use Rattle.brd_link.specs.LinkSet.{IsLinkSet}
@@ -33,21 +34,21 @@ NeverEnds b left among =
     IsWithin among (start b (bounds_of left events preemptions)) es →
     GoesOn (place_after (start b (bounds_of left events preemptions)) es)
 
--- where a schedule comes to an end the console is one of some texts
-abbrev pub IsListed : List (List ℕ) → Place → Type 0
-IsListed texts p = is_end p.board p.left ≡ true → list_any (bytes_eq p.board.kernel.console) texts ≡ true
+-- where a schedule comes to an end the console and the words at some addresses are those of one of these ends
+abbrev pub IsListed : List ℕ → List Ending → Place → Type 0
+IsListed words finals p = is_end p.board p.left ≡ true → list_any (is_ending p.board words) finals ≡ true
 
 -- That is so of each schedule from a board, whose links are a set, that has no more ticks and raises than so many,
 -- however many events and preemptions it has.
-abbrev pub AreAll : List (List ℕ) → BoardState → Left → List Event → Type 0
-AreAll texts b left among =
+abbrev pub AreAll : List ℕ → List Ending → BoardState → Left → List Event → Type 0
+AreAll words finals b left among =
     IsLinkSet b.links → (events preemptions : ℕ) (es : List Event) →
     IsWithin among (start b (bounds_of left events preemptions)) es →
-    IsListed texts (place_after (start b (bounds_of left events preemptions)) es)
+    IsListed words finals (place_after (start b (bounds_of left events preemptions)) es)
 
--- that at an end there is another console than some is not to happen (private contracts alone name this)
-abbrev pub no_other : List (List ℕ) → Wanted
-no_other texts = record { failures = failure.Unlisted texts ∷ []; round = []; rounds = 0 }
+-- that there is another end than some is not to happen (private contracts alone name this)
+abbrev pub no_other : List ℕ → List Ending → Wanted
+no_other words finals = record { failures = failure.Unlisted words finals ∷ []; round = []; rounds = 0 }
 
 -- that there is an end is not to happen (private contracts alone name this)
 abbrev pub no_end : Wanted

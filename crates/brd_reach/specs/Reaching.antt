@@ -68,6 +68,10 @@ pub record IsSharedCondition (by : Sharing) (condition : Condition) : Type 0 whe
   pub left : AreSharedTerms by condition.left
   pub right : AreSharedTerms by condition.right
 
+-- the words at some addresses are shared
+abbrev pub AreSharedWords : Sharing → List ℕ → Type 0
+AreSharedWords by words = All (IsSharedWord by) words
+
 -- what a failure watches of memory is shared
 abbrev pub IsGuarded : Sharing → Failure → Type 0
 IsGuarded by failure.Exception = Unit {0}
@@ -78,7 +82,7 @@ IsGuarded by (failure.Outside address least most) = IsSharedWord by address
 IsGuarded by (failure.Holds condition) = IsSharedCondition by condition
 IsGuarded by failure.On = Unit {0}
 IsGuarded by failure.Ended = Unit {0}
-IsGuarded by (failure.Unlisted texts) = Unit {0}
+IsGuarded by (failure.Unlisted words finals) = AreSharedWords by words
 IsGuarded by (failure.At address) = Unit {0}
 
 abbrev pub AreGuarded : Sharing → List Failure → Type 0

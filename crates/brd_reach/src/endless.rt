@@ -1,4 +1,4 @@
-//! Whether a schedule comes to an end, and what the console is there.
+//! Whether a schedule comes to an end, and what the console and some words are there.
 
 ghost use Rattle.std.specs.Prelude.{◌≡◌, true, IfOk};
 ghost use Rattle.brd_reach.specs.Endless.{AreAll, NeverEnds, no_end, no_other, rest_after, rest_of};
@@ -6,7 +6,7 @@ ghost use Rattle.brd_reach.specs.Endless.{AreAll, NeverEnds, no_end, no_other, r
 use crate::searching::{Reached, reach};
 use brd_base::{List, NoMemory};
 use brd_board::{Board, Event};
-use brd_explore::{Failure, Wanted};
+use brd_explore::{Ending, Failure, Wanted};
 use brd_places::Left;
 use std::alloc::Global;
 
@@ -22,7 +22,7 @@ pub fn never_ends(
     ensures { IfOk result (λ never. never ≡ true → NeverEnds start.now left among.now) }
 {
     let wanted = no_end(alloc)?;
-    match reach(alloc, start, left, among, &wanted, most)? {
+    match reach(alloc, start, left, among, &wanted, &[], most)? {
         Reached::Holds(_) => Ok(true),
         Reached::Fails(_) | Reached::Unknown(_) => Ok(false),
     }
@@ -41,31 +41,33 @@ fn no_end(alloc: Global) -> Result<Wanted, NoMemory>
     })
 }
 
-/// Whether it is found, going through so many places at most, that the console is one of these at each end to which a
-/// schedule from a board comes, however many events and preemptions it has, with so many ticks and raises.
+/// Whether it is found, going through so many places at most, that at each end to which a schedule from a board comes,
+/// however many events and preemptions it has, with so many ticks and raises, the console and the words at some
+/// addresses are those of one of these ends.
 pub fn show_all(
     alloc: Global,
     start: &Board,
     left: Left,
     among: &[Event],
     most: usize,
-    texts: List<List<u8>>,
+    words: List<u32>,
+    finals: List<Ending>,
 ) -> Result<bool, NoMemory>
-    ensures { IfOk result (λ all. all ≡ true → AreAll texts start.now left among.now) }
+    ensures { IfOk result (λ all. all ≡ true → AreAll words finals start.now left among.now) }
 {
-    let wanted = no_other(alloc, texts)?;
-    match reach(alloc, start, left, among, &wanted, most)? {
+    let wanted = no_other(alloc, words, finals)?;
+    match reach(alloc, start, left, among, &wanted, &[], most)? {
         Reached::Holds(_) => Ok(true),
         Reached::Fails(_) | Reached::Unknown(_) => Ok(false),
     }
 }
 
-/// That at an end there is another console than these is not to happen.
-fn no_other(alloc: Global, texts: List<List<u8>>) -> Result<Wanted, NoMemory>
-    ensures { IfOk result (λ wanted. wanted ≡ no_other texts) }
+/// That there is another end than these is not to happen.
+fn no_other(alloc: Global, words: List<u32>, finals: List<Ending>) -> Result<Wanted, NoMemory>
+    ensures { IfOk result (λ wanted. wanted ≡ no_other words finals) }
 {
     let mut failures = List::new(alloc);
-    failures.push(Failure::Unlisted(texts))?;
+    failures.push(Failure::Unlisted { words, finals })?;
     Ok(Wanted {
         failures,
         round: List::new(alloc),

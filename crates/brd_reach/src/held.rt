@@ -3,6 +3,7 @@
 use crate::ways::{Shown, Ways};
 use brd_base::{List, NoMemory};
 use brd_board::Event;
+use brd_explore::Ending;
 use brd_places::Places;
 use std::alloc::Global;
 
@@ -17,18 +18,18 @@ pub struct Held {
     pub hopeless: usize,
     /// The events that lead to the first of these.
     pub first: Option<List<Event>>,
-    /// The consoles of the ends, at most 64 of them.
+    /// The ends that aren't alike, at most 64 of them.
     pub finals: List<Final>,
     /// Whether there are more.
     pub more: bool,
 }
 
-/// A console of an end.
+/// An end.
 #[derive(Drop)]
 pub struct Final {
-    /// What it is.
-    pub console: List<u8>,
-    /// The events that lead to an end that has it.
+    /// What the console and the words are there.
+    pub ending: Ending,
+    /// The events that lead to one that is so.
     pub events: List<Event>,
 }
 
@@ -45,18 +46,18 @@ pub(crate) fn what_holds(alloc: Global, places: &Places, ways: &Ways) -> Result<
         ends: ways.ends(),
         hopeless,
         first,
-        finals: finals_of(alloc, places, ways.consoles())?,
+        finals: finals_of(alloc, places, ways.endings())?,
         more: ways.are_more(),
     })
 }
 
-/// The consoles of ends, each with the events that lead to it.
-fn finals_of(alloc: Global, places: &Places, consoles: &[Shown]) -> Result<List<Final>, NoMemory> {
+/// Ends, each with the events that lead to it.
+fn finals_of(alloc: Global, places: &Places, endings: &[Shown]) -> Result<List<Final>, NoMemory> {
     let mut finals = List::new(alloc);
-    for shown in consoles {
-        let console = List::from_slice(alloc, shown.console.as_slice())?;
+    for shown in endings {
+        let ending = shown.ending.try_copy(alloc)?;
         let events = places.path(shown.at)?;
-        finals.push(Final { console, events })?;
+        finals.push(Final { ending, events })?;
     }
     Ok(finals)
 }

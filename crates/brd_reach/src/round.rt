@@ -41,11 +41,15 @@ pub(crate) fn visit_all(
     ensures more { IsMore places.old places.new }
     ensures so { IfOk result (RoundSo (sharing_for sharing.now wanted.now) among.now wanted.now places.new) }
 {
+    let mut here = places.board(0)?;
+    let mut last = places.board(0)?;
     for at in 0..most {
         if at >= places.len() {
             return Ok(Round::Holds);
         }
-        match visit(alloc, places, ways, at, sharing, words, among, wanted)? {
+        match visit(
+            alloc, places, ways, at, sharing, words, among, wanted, &mut here, &mut last,
+        )? {
             Tried::Done => {}
             Tried::Fails => return Ok(Round::Fails(at)),
             Tried::Strays(cpu, count) => return Ok(Round::Strays(at, cpu, count)),

@@ -3,7 +3,7 @@
 ghost use Rattle.std.specs.Prelude.{◌≡◌, IfOk, List as ListOf};
 ghost use Rattle.brd_blocks.specs.Owning.{StayShared, sharing_of};
 ghost use Rattle.brd_reach.specs.Reaching.{AreGuarded, AreSharedTerms, IsGuarded, IsSharedCondition, IsSharedTerm};
-ghost use Rattle.brd_reach.specs.Reaching.{IsSharedWord, ReachedSo};
+ghost use Rattle.brd_reach.specs.Reaching.{AreSharedWords, IsSharedWord, ReachedSo};
 
 use crate::held::{Held, what_holds};
 use crate::round::{Round, visit_all};
@@ -31,13 +31,15 @@ pub enum Reached {
 const MOST_ROUNDS: u32 = 10_000;
 
 /// Searches all places of a board to which events lead, however many there are, with so many ticks and raises: for one
-/// that fails, or to find that none does. It visits so many places at most.
+/// that fails, or to find that none does. It visits so many places at most. Ends are told from each other by the console
+/// and the words at some addresses.
 pub fn reach(
     alloc: Global,
     start: &Board,
     left: Left,
     among: &[Event],
     wanted: &Wanted,
+    words: &[u32],
     most: usize,
 ) -> Result<Reached, NoMemory>
     ensures { IfOk result (ReachedSo start.now left among.now wanted.now) }
@@ -46,18 +48,17 @@ pub fn reach(
         return Ok(Reached::Unknown(Unknown::Fair));
     }
     let size = ram_len(start);
-    let mut sharing = guarded(alloc, size, wanted)?;
+    let mut sharing = guarded_with(alloc, size, wanted, words)?;
     for _ in 0..MOST_ROUNDS {
-        let words = owned_words(alloc, &sharing, size)?;
+        let owned = owned_words(alloc, &sharing, size)?;
         let mut places = Places::new(alloc, start, left)?;
-        let mut ways = Ways::new(alloc);
-        let words = words.as_slice();
+        let mut ways = Ways::new(alloc, words)?;
         match visit_all(
             alloc,
             &mut places,
             &mut ways,
             &sharing,
-            words,
+            owned.as_slice(),
             among,
             wanted,
             most,
@@ -90,6 +91,22 @@ pub fn ram_len(board: &Board) -> u32 {
     PAGES * PAGE
 }
 
+/// Who may touch which word of a RAM of this size: all what failures watch and the words at some addresses, and nobody's
+/// else.
+fn guarded_with(
+    alloc: Global,
+    size: u32,
+    wanted: &Wanted,
+    words: &[u32],
+) -> Result<Sharing, NoMemory>
+    ensures guarded { IfOk result (λ sharing. AreGuarded (sharing_of sharing) wanted.now.failures) }
+    ensures shared { IfOk result (λ sharing. AreSharedWords (sharing_of sharing) words.now) }
+{
+    let mut sharing = guarded(alloc, size, wanted)?;
+    guard_words(&mut sharing, words);
+    Ok(sharing)
+}
+
 /// Who may touch which word of a RAM of this size: all what failures watch, and nobody's else.
 pub fn guarded(alloc: Global, size: u32, wanted: &Wanted) -> Result<Sharing, NoMemory>
     ensures { IfOk result (λ sharing. AreGuarded (sharing_of sharing) wanted.now.failures) }
@@ -112,7 +129,8 @@ fn guard(sharing: &mut Sharing, failure: &Failure)
         }
         Failure::Holds(condition) => guard_condition(sharing, condition),
         Failure::Exception | Failure::Deadlock | Failure::Console(_) => {}
-        Failure::On | Failure::Ended | Failure::Unlisted(_) | Failure::At { .. } => {}
+        Failure::Unlisted { words, .. } => guard_words(sharing, words.as_slice()),
+        Failure::On | Failure::Ended | Failure::At { .. } => {}
     }
 }
 
@@ -142,6 +160,16 @@ fn guard_term(sharing: &mut Sharing, term: Term)
 {
     if let Term::Word(address) = term {
         guard_word(sharing, address);
+    }
+}
+
+/// All may touch the words at some addresses, from now on.
+fn guard_words(sharing: &mut Sharing, words: &[u32])
+    ensures stays { StayShared sharing.old sharing.new }
+    ensures guarded { AreSharedWords (sharing_of sharing.new) words.now }
+{
+    for address in words {
+        guard_word(sharing, *address);
     }
 }
 

@@ -16,7 +16,7 @@ use brd_base::NoMemory;
 use brd_blocks::Sharing;
 use brd_board::{Board, Event};
 use brd_explore::{Bounds, Wanted};
-use brd_places::{Left, Places, mix};
+use brd_places::{Left, Places, copy_over, mix};
 use std::alloc::Global;
 
 /// What was tried at a place came to.
@@ -33,7 +33,8 @@ pub(crate) enum Tried {
 }
 
 /// Visits the place of an index: looks whether it fails, and tries all events that may come there. `words` are the
-/// addresses of the words by whose values places are told from each other at first sight.
+/// addresses of the words by whose values places are told from each other at first sight. The boards in `here` and `last`
+/// become other ones.
 pub(crate) fn visit(
     alloc: Global,
     places: &mut Places,
@@ -43,20 +44,22 @@ pub(crate) fn visit(
     words: &[u32],
     among: &[Event],
     wanted: &Wanted,
+    here: &mut Board,
+    last: &mut Board,
 ) -> Result<Tried, NoMemory>
     ensures more { (place : Place) → slice_get places.old at ≡ Some place → IsMore places.old places.new }
     ensures so { (place : Place) → slice_get places.old at ≡ Some place →
         IfOk result (VisitedSo (sharing_for sharing.now wanted.now) among.now wanted.now places.new place) }
 {
-    let board = places.board(at)?;
+    places.put(at, here)?;
     let left = places.left(at);
-    if wanted.fails_at(&board, bounds_of(left))? {
+    if wanted.fails_at(here, bounds_of(left))? {
         return Ok(Tried::Fails);
     }
-    ways.come(alloc, stop_at(&board, left)?, board.console())?;
+    ways.come(alloc, stop_at(here, left)?, here)?;
     for event in among {
         match try_event(
-            places, ways, at, &board, left, sharing, words, wanted, *event,
+            places, ways, at, here, left, sharing, words, wanted, *event, last,
         )? {
             Tried::Done => {}
             Tried::Fails => return Ok(Tried::Fails),
@@ -91,15 +94,18 @@ fn try_event(
     words: &[u32],
     wanted: &Wanted,
     event: Event,
+    last: &mut Board,
 ) -> Result<Tried, NoMemory>
     ensures more { IsAt places.old at left board.now → IsMore places.old places.new }
     ensures so { (among : ListOf EventOf) → IsAt places.old at left board.now →
         IfOk result (TriedSo (sharing_for sharing.now wanted.now) among places.new left board.now event) }
 {
     match event {
-        Event::Step(cpu) => try_step(places, ways, at, board, left, sharing, words, wanted, cpu),
-        Event::Tick => try_other(places, ways, at, board, left, words, event),
-        Event::Raise(_) => try_other(places, ways, at, board, left, words, event),
+        Event::Step(cpu) => try_step(
+            places, ways, at, board, left, sharing, words, wanted, cpu, last,
+        ),
+        Event::Tick => try_other(places, ways, at, board, left, words, event, last),
+        Event::Raise(_) => try_other(places, ways, at, board, left, words, event, last),
     }
 }
 
@@ -114,6 +120,7 @@ fn try_step(
     words: &[u32],
     wanted: &Wanted,
     cpu: u8,
+    last: &mut Board,
 ) -> Result<Tried, NoMemory>
     ensures more { IsAt places.old at left board.now → IsMore places.old places.new }
     ensures so { (among : ListOf EventOf) → IsAt places.old at left board.now →
@@ -122,20 +129,11 @@ fn try_step(
     if cpu == 0 || cpu > 8 {
         return Ok(Tried::Unknown(Unknown::Waits));
     }
-    let mut last = board.try_copy()?;
-    match go(sharing, wanted, board, &mut last, cpu)? {
+    copy_over(last, board)?;
+    match go(sharing, wanted, board, last, cpu)? {
         Block::Stays => Ok(Tried::Done),
         Block::Leads(count) => {
-            note(
-                places,
-                ways,
-                at,
-                words,
-                Event::Step(cpu),
-                count,
-                &last,
-                left,
-            )?;
+            note(places, ways, at, words, Event::Step(cpu), count, last, left)?;
             Ok(Tried::Done)
         }
         Block::Strays(count) => Ok(Tried::Strays(cpu, count)),
@@ -152,6 +150,7 @@ fn try_other(
     left: Left,
     words: &[u32],
     event: Event,
+    last: &mut Board,
 ) -> Result<Tried, NoMemory>
     ensures more { IsAt places.old at left board.now → IsMore places.old places.new }
     ensures so { IsAt places.old at left board.now → IfOk result (IsPaid places.new left board.now event) }
@@ -159,9 +158,9 @@ fn try_other(
     let Some(rest) = paid(left, event) else {
         return Ok(Tried::Done);
     };
-    let mut last = board.try_copy()?;
+    copy_over(last, board)?;
     let _ = last.event_apart(event);
-    note(places, ways, at, words, event, 1, &last, rest)?;
+    note(places, ways, at, words, event, 1, last, rest)?;
     Ok(Tried::Done)
 }
 

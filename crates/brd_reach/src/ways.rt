@@ -3,10 +3,12 @@
 
 use crate::stop::Stop;
 use brd_base::{List, NoMemory};
+use brd_board::Board;
+use brd_explore::Ending;
 use std::alloc::Global;
 
-/// How many consoles of ends are kept at most (own choice).
-const MOST_CONSOLES: usize = 64;
+/// How many ends are kept at most that aren't alike (own choice).
+const MOST_ENDINGS: usize = 64;
 
 /// A way from the place of an index to that of another one.
 #[derive(Clone, Copy)]
@@ -21,64 +23,82 @@ pub(crate) struct Ways {
     ways: Vec<Way>,
     /// Of each place, in their order, whether schedules stop there.
     stops: Vec<Stop>,
-    /// The consoles of ends, each with the index of the first place that has it.
-    consoles: Vec<Shown>,
+    /// The addresses of the words that are looked at where schedules end.
+    words: List<u32>,
+    /// The ends that aren't alike, each with the index of the first such place.
+    endings: Vec<Shown>,
     /// Whether there are more of them.
     more: bool,
 }
 
-/// A console of an end.
+/// What an end is.
 #[derive(Drop)]
 pub(crate) struct Shown {
-    /// The index of the first place that has it.
+    /// The index of the first place that is one.
     pub at: usize,
-    /// What it is.
-    pub console: List<u8>,
+    /// What the console and the words are there.
+    pub ending: Ending,
 }
 
 impl Ways {
-    /// No way, and no place.
-    pub fn new(alloc: Global) -> Ways {
-        Ways {
+    /// No way, and no place. Where schedules end, the words at these addresses are looked at.
+    pub fn new(alloc: Global, words: &[u32]) -> Result<Ways, NoMemory> {
+        Ok(Ways {
             ways: Vec::new(alloc),
             stops: Vec::new(alloc),
-            consoles: Vec::new(alloc),
+            words: List::from_slice(alloc, words)?,
+            endings: Vec::new(alloc),
             more: false,
-        }
+        })
     }
 
-    /// Comes to the next place, which has this console.
-    pub fn come(&mut self, alloc: Global, stop: Stop, console: &[u8]) -> Result<(), NoMemory> {
+    /// Comes to the next place, which has this board.
+    pub fn come(&mut self, alloc: Global, stop: Stop, board: &Board) -> Result<(), NoMemory> {
         if stop == Stop::End {
-            self.show(alloc, console)?;
+            let values = self.values_on(alloc, board)?;
+            self.show(alloc, board.console(), values)?;
         }
         self.stops.push(stop)?;
         Ok(())
     }
 
-    /// Keeps the console of an end, which is the next place, unless it is kept.
-    fn show(&mut self, alloc: Global, console: &[u8]) -> Result<(), NoMemory> {
-        for shown in self.consoles.as_slice() {
-            if shown.console.as_slice() == console {
+    /// The values of the words on a board, of those that it has.
+    fn values_on(&self, alloc: Global, board: &Board) -> Result<List<u32>, NoMemory> {
+        let mut values = List::new(alloc);
+        for address in self.words.as_slice() {
+            if let Some(value) = board.word(*address) {
+                values.push(value)?;
+            }
+        }
+        Ok(values)
+    }
+
+    /// Keeps what an end is, which is the next place, unless it is kept.
+    fn show(&mut self, alloc: Global, console: &[u8], values: List<u32>) -> Result<(), NoMemory> {
+        for shown in self.endings.as_slice() {
+            if is_such(&shown.ending, console, values.as_slice()) {
                 return Ok(());
             }
         }
-        if self.consoles.len() >= MOST_CONSOLES {
+        if self.endings.len() >= MOST_ENDINGS {
             self.more = true;
             return Ok(());
         }
         let console = List::from_slice(alloc, console)?;
         let at = self.stops.len();
-        self.consoles.push(Shown { at, console })?;
+        self.endings.push(Shown {
+            at,
+            ending: Ending { console, values },
+        })?;
         Ok(())
     }
 
-    /// The consoles of ends, each with the index of the first place that has it.
-    pub fn consoles(&self) -> &[Shown] {
-        self.consoles.as_slice()
+    /// The ends that aren't alike, each with the index of the first such place.
+    pub fn endings(&self) -> &[Shown] {
+        self.endings.as_slice()
     }
 
-    /// Whether there are more consoles of ends than were kept.
+    /// Whether there are more of them than were kept.
     pub fn are_more(&self) -> bool {
         self.more
     }
@@ -124,6 +144,11 @@ impl Ways {
         }
         more
     }
+}
+
+/// Whether an end has this console, and these values of words.
+fn is_such(ending: &Ending, console: &[u8], values: &[u32]) -> bool {
+    ending.console.as_slice() == console && ending.values.as_slice() == values
 }
 
 /// A place leads on from which a way leads to one that does. Answers whether it didn't before.

@@ -15,7 +15,7 @@ ghost use Rattle.brd_board.specs.Board.{BoardState};
 use crate::saving::{is_over, journal_text, save, tell, try_out};
 use brd_base::{List, NoMemory};
 use brd_board::{Board, Event};
-use brd_explore::{Bounds, Counts, Watch};
+use brd_explore::{Bounds, Counts, Ending, Watch};
 use brd_inputs::{CommandFault, Files, Loaded, Pair, open_pair, read_board};
 use brd_mem::Symbol;
 use brd_places::Left;
@@ -230,6 +230,7 @@ fn told_of_all(
         left,
         plan.among.as_slice(),
         &plan.wanted,
+        plan.values.as_slice(),
         most,
     )? {
         Reached::Holds(held) => told_held(alloc, board, symbols, plan, held),
@@ -277,7 +278,7 @@ fn told_held(
     Ok(told_hold(alloc, symbols, plan, extent, &listed)?)
 }
 
-/// The consoles of all ends, in words: that there is no other is found by one more search.
+/// All ends, in words: that there is no other is found by one more search.
 fn finals_text(
     alloc: Global,
     board: &Board,
@@ -291,39 +292,54 @@ fn finals_text(
     if !more && !are_all(alloc, board, plan, finals)? {
         return Err(CommandFault::Search(SearchFault::Unlearned));
     }
-    Ok(text_of_finals(alloc, board, symbols, finals, more)?)
+    Ok(text_of_finals(alloc, board, symbols, plan, finals, more)?)
 }
 
-/// Whether it is found that these are the consoles of all ends.
+/// Whether it is found that these are all ends, by the console and the words that are asked for.
 fn are_all(alloc: Global, board: &Board, plan: &Plan, finals: &[Final]) -> Result<bool, NoMemory> {
-    let mut texts = List::new(alloc);
-    for each in finals {
-        texts.push(List::from_slice(alloc, each.console.as_slice())?)?;
-    }
+    let endings = endings_of(alloc, finals)?;
+    let words = List::from_slice(alloc, plan.values.as_slice())?;
     show_all(
         alloc,
         board,
         left_of(plan.bounds),
         plan.among.as_slice(),
         plan.places as usize,
-        texts,
+        words,
+        endings,
     )
 }
 
-/// The consoles of ends, in words.
+/// What the ends are.
+fn endings_of(alloc: Global, finals: &[Final]) -> Result<List<Ending>, NoMemory> {
+    let mut endings = List::new(alloc);
+    for each in finals {
+        endings.push(each.ending.try_copy(alloc)?)?;
+    }
+    Ok(endings)
+}
+
+/// Ends, in words.
 fn text_of_finals(
     alloc: Global,
     board: &Board,
     symbols: &[Symbol],
+    plan: &Plan,
     finals: &[Final],
     more: bool,
 ) -> Result<Vec<u8>, NoMemory> {
+    let words = plan.values.as_slice();
     let mut out = Vec::new(alloc);
-    put_final_count(alloc, finals.len() as u64, more, &mut out)?;
+    put_final_count(
+        alloc,
+        finals.len() as u64,
+        !words.is_empty(),
+        more,
+        &mut out,
+    )?;
     for each in finals {
-        let console = each.console.as_slice();
         let events = each.events.as_slice();
-        put_final(alloc, symbols, board, console, events, &mut out)?;
+        put_final(alloc, symbols, board, words, &each.ending, events, &mut out)?;
     }
     Ok(out)
 }

@@ -13,6 +13,7 @@ use Rattle.brd_mem.specs.declared.image.Symbol.{Symbol}
 use Rattle.brd_board.specs.declared.event.Event.{Event}
 use Rattle.brd_board.specs.declared.event.Event.TheVariants.{Step, Tick, Raise}
 use Rattle.brd_board.specs.Board.{BoardState}
+use Rattle.brd_board.specs.Words.{word_at}
 use Rattle.brd_explore.specs.Schedules.{does}
 use Rattle.brd_explore.specs.declared.bounds.Bounds.{Bounds}
 use Rattle.brd_explore.specs.declared.shard.Shard as part
@@ -30,6 +31,7 @@ use Rattle.brd_search.specs.declared.fault.SearchFault.TheVariants.{NoMemory, Ev
 use Rattle.brd_search.specs.declared.fault.SearchFault.TheVariants.{Twice, NoHandler, Ends, Places, Lazy, Reach}
 use Rattle.brd_search.specs.declared.fault.SearchFault.TheVariants.{Never, Time, Word, NoSymbol, Console, Shard, Threads}
 use Rattle.brd_search.specs.declared.fault.SearchFault.TheVariants.{Raises as BadRaises}
+use Rattle.brd_search.specs.declared.fault.SearchFault.TheVariants.{NoFinals, Values, ValuesTwice, NoWord}
 use Rattle.brd_search.specs.declared.fault.SearchFault.TheVariants.{Only, OnlySymbol, OnlyEmpty, OnlyTwice, OnlyAlone}
 use Rattle.brd_only.specs.declared.region.Region.{Region}
 use Rattle.brd_search.specs.declared.raises.Raises.{Raises}
@@ -372,6 +374,56 @@ abbrev pub nevers_of : List Symbol → Option (List ℕ) → Result (List Failur
 nevers_of symbols None = Ok []
 nevers_of symbols (Some text) = each_of (never_of symbols) (pieces_of text)
 
+-- ---- words whose values are listed
+
+-- the address of a place of `--values`
+abbrev pub listed_at : List Symbol → List ℕ → Result ℕ SearchFault
+listed_at symbols place = or_fault Values (place_of symbols place)
+
+-- the addresses of `--values`, each by a piece of its text
+abbrev pub values_in : List Symbol → Option (List ℕ) → Result (List ℕ) SearchFault
+values_in symbols None = Ok []
+values_in symbols (Some text) = each_of (listed_at symbols) (pieces_of text)
+
+-- another address is this one
+abbrev pub is_other : ℕ → ℕ → Bool
+is_other address other = other == address
+
+-- two of some addresses are the same
+abbrev pub is_doubled : List ℕ → Bool
+is_doubled [] = false
+is_doubled (address ∷ others) = list_any (is_other address) others || is_doubled others
+
+-- RAM has no aligned word at an address
+abbrev pub is_astray : BoardState → ℕ → Bool
+is_astray b address = not (is_some (word_at b.memory address))
+
+-- values aren't asked for, or all ends are
+abbrev pub values_fit : SearchOptions → Bool
+values_fit options = options.finals || not (is_some (text_of options.values))
+
+-- The addresses of the words whose values are asked for: each comes once, and RAM has an aligned word there.
+pub record AreValues (options : SearchOptions) (b : BoardState) (symbols : List Symbol) (words : List ℕ) : Type 0 where
+  pub fit : values_fit options ≡ true
+  pub are : values_in symbols (text_of options.values) ≡ Ok words
+  pub once : is_doubled words ≡ false
+  pub there : list_any (is_astray b) words ≡ false
+
+-- Of the addresses of the words whose values are asked for this is so.
+pub record AreBadValues (options : SearchOptions) (symbols : List Symbol) (is : List ℕ → Bool) : Type 0 where
+  pub words : List ℕ
+  pub are : values_in symbols (text_of options.values) ≡ Ok words
+  pub so : is words ≡ true
+
+-- what is wrong with the words whose values are asked for, or that memory ran out
+abbrev pub KeepsFromValues : SearchOptions → BoardState → List Symbol → SearchFault → Type 0
+KeepsFromValues options b symbols NoMemory = Unit {0}
+KeepsFromValues options b symbols NoFinals = values_fit options ≡ false
+KeepsFromValues options b symbols Values = values_in symbols (text_of options.values) ≡ Err Values
+KeepsFromValues options b symbols ValuesTwice = AreBadValues options symbols is_doubled
+KeepsFromValues options b symbols NoWord = AreBadValues options symbols (list_any (is_astray b))
+KeepsFromValues options b symbols _ = ⊥
+
 -- ---- all that is looked for
 
 -- the options don't say what is looked for
@@ -452,8 +504,7 @@ time_fits options = not (options.shortest && not (options.time == 0))
 -- options ask for nothing that a search by the lazy schedules alone doesn't know
 abbrev pub is_simple : SearchOptions → Bool
 is_simple options =
-    not (is_some (text_of options.shard)) && options.sizes.fair == 0 && options.remember == 0 && options.threads == 0
-    && options.places == 0
+    not (is_some (text_of options.shard)) && options.sizes.fair == 0 && options.remember == 0 && options.places == 0
 
 -- they don't ask for such a search, or for nothing else
 abbrev pub lazy_fits : SearchOptions → Bool
@@ -497,6 +548,7 @@ pub record IsPlan (options : SearchOptions) (b : BoardState) (cpus : ℕ) (symbo
     pub finals : plan.finals ≡ options.finals
     pub lazy : plan.lazy ≡ options.lazy
     pub memory : plan.memory ≡ memory_of options
+    pub values : AreValues options b symbols plan.values
     pub plain : places_fit options ≡ true
     pub timely : time_fits options ≡ true
     pub simple : lazy_fits options ≡ true
@@ -538,6 +590,10 @@ KeepsFromPlanning options b cpus symbols Places = (0 < options.places) × (is_pl
 KeepsFromPlanning options b cpus symbols Ends = (options.places ≡ 0) × ((options.livelock || options.finals) ≡ true)
 KeepsFromPlanning options b cpus symbols Time = time_fits options ≡ false
 KeepsFromPlanning options b cpus symbols Lazy = lazy_fits options ≡ false
+KeepsFromPlanning options b cpus symbols NoFinals = KeepsFromValues options b symbols NoFinals
+KeepsFromPlanning options b cpus symbols Values = KeepsFromValues options b symbols Values
+KeepsFromPlanning options b cpus symbols ValuesTwice = KeepsFromValues options b symbols ValuesTwice
+KeepsFromPlanning options b cpus symbols NoWord = KeepsFromValues options b symbols NoWord
 KeepsFromPlanning options b cpus symbols Only = regions_of symbols (text_of options.only) ≡ Err Only
 KeepsFromPlanning options b cpus symbols OnlySymbol = regions_of symbols (text_of options.only) ≡ Err OnlySymbol
 KeepsFromPlanning options b cpus symbols OnlyEmpty = regions_of symbols (text_of options.only) ≡ Err OnlyEmpty
@@ -665,6 +721,23 @@ IsOfGoals symbols words NoMemory = Unit {0}
 IsOfGoals symbols words Word = goals_of symbols words ≡ Err Word
 IsOfGoals symbols words NoSymbol = goals_of symbols words ≡ Err NoSymbol
 IsOfGoals symbols words _ = ⊥
+
+-- the fault of `--values`
+abbrev pub IsOfValues : List Symbol → Option (List ℕ) → SearchFault → Type 0
+IsOfValues symbols places NoMemory = Unit {0}
+IsOfValues symbols places Values = values_in symbols places ≡ Err Values
+IsOfValues symbols places _ = ⊥
+
+-- each address comes once, and RAM has an aligned word there
+pub record AreApart (b : BoardState) (words : List ℕ) : Type 0 where
+  pub once : is_doubled words ≡ false
+  pub there : list_any (is_astray b) words ≡ false
+
+-- an address comes twice, or RAM has no aligned word there
+abbrev pub AreNotApart : BoardState → List ℕ → SearchFault → Type 0
+AreNotApart b words ValuesTwice = is_doubled words ≡ true
+AreNotApart b words NoWord = list_any (is_astray b) words ≡ true
+AreNotApart b words _ = ⊥
 
 -- the fault of a place of `--reach`
 abbrev pub IsOfReach : SearchFault → Type 0

@@ -70,7 +70,7 @@ pub enum SearchFault {
     #[error("--time doesn't go with --shortest")]
     Time,
     /// A search by lazy schedules is to do what it doesn't know.
-    #[error("--lazy goes with none of --fair, --places, --remember, --shard and --threads")]
+    #[error("--lazy goes with none of --fair, --places, --remember and --shard")]
     Lazy,
     /// A region isn't one.
     #[error("--only has regions of instructions with commas between them, as push..pop: from a place up to, not \
@@ -115,6 +115,19 @@ pub enum SearchFault {
     /// A shard isn't one of its number.
     #[error("--shard is K/M, shard K of M, with K from 1 to M")]
     Shard,
+    /// Values are asked for, and no list of ends.
+    #[error("--values goes with --finals")]
+    NoFinals,
+    /// A place of a word whose value is asked for isn't one.
+    #[error("--values has words with commas between them, each a symbol of the object file, or 0x and a hexadecimal \
+         address")]
+    Values,
+    /// A word is named twice.
+    #[error("--values names a word twice")]
+    ValuesTwice,
+    /// There is no word at a place whose value is asked for.
+    #[error("--values names a place that has no word: it isn't in RAM, or its address is no multiple of 4")]
+    NoWord,
 }
 
 impl From<NoMemory> for SearchFault {

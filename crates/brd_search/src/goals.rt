@@ -95,7 +95,7 @@ fn reach_of(place: &[u8], symbols: &[Symbol]) -> Result<Failure, SearchFault>
 }
 
 /// The address of a place: a number where it begins with a digit, or the value of a symbol.
-fn place_of(place: &[u8], symbols: &[Symbol]) -> Option<u32>
+pub(crate) fn place_of(place: &[u8], symbols: &[Symbol]) -> Option<u32>
     ensures { result ≡ plans.place_of symbols.now place.now }
 {
     if begins_with_digit(place) {

@@ -17,6 +17,7 @@ mod regions;
 mod searching;
 mod shown;
 mod told;
+mod values;
 mod wanting;
 
 pub use fault::SearchFault;

@@ -65,6 +65,8 @@ pub struct SearchOptions<'a> {
     /// If it isn't said: how many MiB of places it remembers at most before it goes on by all schedules; 0: it goes by
     /// all at once.
     pub memory: u32,
+    /// The words whose values such a list has beside the consoles, as `count,0x80000010`.
+    pub values: Option<&'a str>,
     /// In which regions of instructions a processor may be preempted, as `push..pop,lock..unlock`: from a place up to,
     /// not including, another one. Nothing: anywhere.
     pub only: Option<&'a str>,

@@ -12,6 +12,7 @@ use crate::fault::SearchFault;
 use crate::options::{SearchOptions, Sizes};
 use crate::raises::{Raises, raises_of};
 use crate::regions::regions_of;
+use crate::values::values_of;
 use crate::wanting::wanted_of;
 use brd_base::List;
 use brd_board::{Board, Event};
@@ -62,6 +63,8 @@ pub struct Plan {
     /// If it isn't said: how many MiB of places it remembers at most before it goes on by all schedules; 0: it goes by
     /// all at once.
     pub memory: u32,
+    /// The addresses of the words whose values such a list has beside the consoles.
+    pub values: List<u32>,
     /// In which regions of instructions a processor may be preempted; none: anywhere.
     pub only: List<Region>,
 }
@@ -83,6 +86,7 @@ impl Drop for Plan {
             finals: _,
             lazy: _,
             memory: _,
+            values: _,
             only: _,
         } = self;
     }
@@ -113,6 +117,7 @@ pub fn plan_of(
     let among = may_come(alloc, options, raises.most, cpus)?;
     check_lines(board, among.as_slice())?;
     let wanted = wanted_of(alloc, &options.looks, options.sizes.fair, cpus, symbols)?;
+    let values = values_of(alloc, options, board, symbols)?;
     let only = regions_of(alloc, options.only, symbols)?;
     Ok(Plan {
         bounds,
@@ -128,6 +133,7 @@ pub fn plan_of(
         finals: options.finals,
         lazy: options.lazy,
         memory: memory_of(options),
+        values,
         only,
     })
 }
@@ -166,7 +172,7 @@ fn check_time(options: &SearchOptions<'_>) -> Result<(), SearchFault>
     Ok(())
 }
 
-/// A search by the lazy schedules alone goes through the whole within bounds, by one thread, and to no fair end.
+/// A search by the lazy schedules alone goes through the whole within bounds, and to no fair end.
 fn check_lazy(options: &SearchOptions<'_>) -> Result<(), SearchFault>
     ensures { MatchResult result (λ _. lazy_fits options.now ≡ true) (IsOfLazy (lazy_fits options.now)) }
 {
@@ -223,7 +229,6 @@ fn is_simple(options: &SearchOptions<'_>) -> bool
     options.shard.is_none()
         && options.sizes.fair == 0
         && options.remember == 0
-        && options.threads == 0
         && options.places == 0
 }
 

@@ -17,7 +17,7 @@ use brd_lazy::{Gone, Lazily, Stops, find_lazily};
 use brd_only::{Inside, find_inside};
 use brd_reach::Unknown;
 use std::alloc::Global;
-use std::thread::Threads;
+use std::thread::{Threads, available_parallelism};
 
 /// What a search came to.
 #[derive(Drop)]
@@ -238,16 +238,17 @@ fn within_whole<T: Threads + Sync, W: Watch + Send>(
     if most == 0 {
         return within_all(rt, alloc, board, plan, bounds, watch);
     }
-    match within_lazily(alloc, board, plan, most, bounds, watch) {
+    match within_lazily(rt, alloc, board, plan, most, bounds, watch) {
         Ok(Ok(searched)) => Ok(searched),
         Ok(Err(why)) if plan.lazy > 0 => Err(NoAnswer::Unknown(why)),
         Ok(Err(_)) => within_all(rt, alloc, board, plan, bounds, watch),
+        Err(Halt::NoMemory) if plan.lazy == 0 => within_all(rt, alloc, board, plan, bounds, watch),
         Err(halt) => Err(stopped(halt)),
     }
 }
 
-/// How many places of a search by lazy schedules a MiB holds, about (own choice): most have some tens of bytes.
-const PLACES: usize = 4_096;
+/// How many places of a search by lazy schedules a MiB holds, at least (own choice): they have 140 bytes to 1 KiB each.
+const PLACES: usize = 1_024;
 
 /// Through how many places a search by the lazy schedules alone goes at most, if it may be made; 0: there is none.
 fn most_places(plan: &Plan, lazily: bool) -> usize {
@@ -299,7 +300,8 @@ fn within_all<T: Threads + Sync, W: Watch + Send>(
 }
 
 /// Searches the lazy ones alone, through so many places at most: what that came to, or why it isn't known.
-fn within_lazily<W: Watch>(
+fn within_lazily<T: Threads + Sync, W: Watch>(
+    rt: &T,
     alloc: Global,
     board: &Board,
     plan: &Plan,
@@ -313,7 +315,9 @@ fn within_lazily<W: Watch>(
     ensures halts { IfErr result (HaltsSo W.may_stop) }
 {
     let found = find_lazily(
+        rt,
         alloc,
+        threads_of(rt, plan.threads),
         board,
         bounds,
         plan.among.as_slice(),
@@ -337,6 +341,21 @@ fn within_lazily<W: Watch>(
         Lazily::Unknown(why) => Ok(Err(why)),
     }
 }
+
+/// How many threads of the host visit places: as many as was asked for, or if nothing was, as the host has processors.
+/// What they come to doesn't depend on it.
+fn threads_of<T: Threads>(rt: &T, asked: u32) -> u32 {
+    if asked > 0 {
+        return asked;
+    }
+    match available_parallelism(rt) {
+        Ok(count) => u32::try_from(count.get()).unwrap_or(1).min(MOST_THREADS),
+        Err(_) => 1,
+    }
+}
+
+/// As how many threads visit places at most if it isn't said how many (own choice).
+const MOST_THREADS: u32 = 64;
 
 /// What stands for the places where one fails: they aren't told.
 const NOWHERE: Gone = Gone {

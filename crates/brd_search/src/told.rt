@@ -5,7 +5,7 @@ use crate::plan::Plan;
 use crate::shown::stops;
 use brd_base::NoMemory;
 use brd_board::{Board, Event};
-use brd_explore::{Bounds, Comparison, Condition, Counts, Failure, Term, Wanted};
+use brd_explore::{Bounds, Comparison, Condition, Counts, Ending, Failure, Term, Wanted};
 use brd_isa::decode;
 use brd_listing::{write_instruction, write_place};
 use brd_mem::Symbol;
@@ -203,16 +203,18 @@ const HOPELESS: &str =
 const NO_END_PLACE: &str =
     "warning: none is an end, so nothing that should be so at the end was looked at; more --ticks may help\n";
 
-/// Puts at the end the console of an end, and below that the schedule to it.
+/// Puts at the end the console of an end and the values of these words there, and below that the schedule to it.
 pub fn put_final(
     alloc: Global,
     symbols: &[Symbol],
     board: &Board,
-    console: &[u8],
+    words: &[u32],
+    ending: &Ending,
     events: &[Event],
     out: &mut Vec<u8>,
 ) -> Result<(), NoMemory> {
-    put_quoted(console, out)?;
+    put_quoted(ending.console.as_slice(), out)?;
+    put_values(alloc, symbols, words, ending.values.as_slice(), out)?;
     put(out, " at an end after ")?;
     put_count(alloc, out, events.len() as u64, "event")?;
     put(out, "\n")?;
@@ -220,10 +222,31 @@ pub fn put_final(
     put_schedule(alloc, symbols, &mut copy, events, out)
 }
 
-/// Puts a line at the end of how many consoles there are at the ends; `more` says that there are more than these.
+/// Puts at the end the values of words, each behind a comma.
+fn put_values(
+    alloc: Global,
+    symbols: &[Symbol],
+    words: &[u32],
+    values: &[u32],
+    out: &mut Vec<u8>,
+) -> Result<(), NoMemory> {
+    for (at, value) in values.iter().enumerate() {
+        put(out, ", ")?;
+        if let Some(address) = words.get(at) {
+            write_place(symbols, *address, out)?;
+            put(out, "=")?;
+        }
+        put_number(alloc, out, u64::from(*value))?;
+    }
+    Ok(())
+}
+
+/// Puts a line at the end of how many consoles there are at the ends, with the values of words if there are any; `more`
+/// says that there are more than these.
 pub fn put_final_count(
     alloc: Global,
     count: u64,
+    with_values: bool,
     more: bool,
     out: &mut Vec<u8>,
 ) -> Result<(), NoMemory> {
@@ -231,6 +254,9 @@ pub fn put_final_count(
         put(out, "more than ")?;
     }
     put_count(alloc, out, count, "console")?;
+    if with_values {
+        put(out, " with values")?;
+    }
     put(out, " at the ends")?;
     put(
         out,
@@ -295,7 +321,7 @@ fn put_kind(
         Failure::Deadlock => put(out, "a deadlock"),
         Failure::On => put(out, "a board that is on at the end"),
         Failure::Ended => put(out, "an end"),
-        Failure::Unlisted(_) => put(out, "a console that isn't listed"),
+        Failure::Unlisted { .. } => put(out, "an end that isn't listed"),
         Failure::Console(text) => {
             put(out, "a console that isn't ")?;
             put_quoted(text.as_slice(), out)
@@ -454,7 +480,7 @@ pub fn put_failure(
         }
         Failure::On => put(out, "the board is on at the end"),
         Failure::Ended => put(out, "an end"),
-        Failure::Unlisted(_) => put(out, "the console isn't listed"),
+        Failure::Unlisted { .. } => put(out, "the end isn't listed"),
         Failure::Word { address, value } => {
             put_word(alloc, symbols, board, *address, out)?;
             put(out, ", not ")?;

@@ -174,6 +174,7 @@ const SEARCH: SearchOptions<'static> = SearchOptions {
     finals: false,
     lazy: 0,
     memory: 0,
+    values: None,
     only: None,
 };
 

@@ -382,32 +382,57 @@ fn first_wrong(alloc: Global) -> Option<usize> {
     None
 }
 
-/// What is told of the lazy search of a case at a board.
-fn lazy_search_of(alloc: Global, board: &Board, case: &Case) -> Told {
-    let Some(wanted) = wanted_of(alloc, case) else {
-        return Told::Nothing;
-    };
-    match find_lazily(
+/// What the lazy search of a case at a board comes to, by so many threads.
+fn lazy_search_of<T: Threads + Sync>(
+    rt: &T,
+    alloc: Global,
+    threads: u32,
+    board: &Board,
+    case: &Case,
+) -> Option<Lazily> {
+    let wanted = wanted_of(alloc, case)?;
+    let bounds = bounds_of(case);
+    find_lazily(
+        rt,
         alloc,
+        threads,
         board,
-        bounds_of(case),
+        bounds,
         case.among,
         &wanted,
         100_000,
         &mut Nobody,
-    ) {
-        Ok(Lazily::Found(_)) => Told::Fails,
-        Ok(Lazily::NoneFails(_)) => Told::NoneFails,
-        Ok(Lazily::Unknown(_)) | Err(_) => Told::Nothing,
+    )
+    .ok()
+}
+
+/// What is told of it.
+fn told_of(searched: &Option<Lazily>) -> Told {
+    match searched {
+        Some(Lazily::Found(_)) => Told::Fails,
+        Some(Lazily::NoneFails(_)) => Told::NoneFails,
+        Some(Lazily::Unknown(_)) | None => Told::Nothing,
     }
 }
 
-/// Whether the lazy search of a case comes to what the other one does.
-fn goes_well_lazily(alloc: Global, case: &Case) -> bool {
-    match build(alloc, case.source.as_bytes(), case.config.as_bytes()) {
-        Ok(board) => agree_lazily(lazy_search_of(alloc, &board, case), case.answer),
-        Err(_) => false,
+/// Whether two searches have come to the very same.
+fn are_same(one: &Option<Lazily>, other: &Option<Lazily>) -> bool {
+    match (one, other) {
+        (Some(Lazily::Found(one)), Some(Lazily::Found(other))) => one.as_slice()
+            == other.as_slice(),
+        (Some(Lazily::NoneFails(one)), Some(Lazily::NoneFails(other))) => one == other,
+        _ => false,
     }
+}
+
+/// Whether the lazy search of a case comes to what the other one does, and by three threads to the very same as by one.
+fn goes_well_lazily<T: Threads + Sync>(rt: &T, alloc: Global, case: &Case) -> bool {
+    let Ok(board) = build(alloc, case.source.as_bytes(), case.config.as_bytes()) else {
+        return false;
+    };
+    let one = lazy_search_of(rt, alloc, 1, &board, case);
+    let three = lazy_search_of(rt, alloc, 3, &board, case);
+    agree_lazily(told_of(&one), case.answer) && are_same(&one, &three)
 }
 
 /// Whether what is told of a lazy search is what is wanted.
@@ -419,9 +444,9 @@ fn agree_lazily(told: Told, wanted: Told) -> bool {
 }
 
 /// The first case that comes to something else by a lazy search, of those without a fair end.
-fn first_wrong_lazily(alloc: Global) -> Option<usize> {
+fn first_wrong_lazily<T: Threads + Sync>(rt: &T, alloc: Global) -> Option<usize> {
     for (row, case) in CASES.iter().enumerate() {
-        if case.rounds == 0 && !goes_well_lazily(alloc, case) {
+        if case.rounds == 0 && !goes_well_lazily(rt, alloc, case) {
             return Some(row);
         }
     }
@@ -431,7 +456,7 @@ fn first_wrong_lazily(alloc: Global) -> Option<usize> {
 /// Lazy searches come to the same answers.
 #[test]
 fn lazy_searches_agree(rt: HostRuntime) -> Result<(), Fail> {
-    none_wrong(first_wrong_lazily(rt.alloc()))
+    none_wrong(first_wrong_lazily(&rt, rt.alloc()))
 }
 
 /// Schedules of some 1,100 events a task with two preemptions, of which there are more than 600,000.
@@ -459,8 +484,8 @@ const ENDLESS: &Case = &Case {
 /// Lazy searches come to an answer where others would take minutes, or days.
 #[test]
 fn long_programs_are_searched_lazily(rt: HostRuntime) {
-    assert!(rt; goes_well_lazily(rt.alloc(), LONG_ONE));
-    assert!(rt; goes_well_lazily(rt.alloc(), ENDLESS));
+    assert!(rt; goes_well_lazily(&rt, rt.alloc(), LONG_ONE));
+    assert!(rt; goes_well_lazily(&rt, rt.alloc(), ENDLESS));
 }
 
 /// The stack doesn't grow with the events of a schedule.

@@ -43,6 +43,7 @@ const OPTIONS: SearchOptions = SearchOptions {
     finals: false,
     lazy: 0,
     memory: 0,
+    values: None,
     only: None,
 };
 
@@ -143,6 +144,41 @@ const FAULTS: &[(SearchOptions<'static>, SearchFault)] = &[
             ..OPTIONS
         },
         SearchFault::Ends,
+    ),
+    (
+        SearchOptions {
+            places: 1,
+            values: Some("0x80000000"),
+            ..OPTIONS
+        },
+        SearchFault::NoFinals,
+    ),
+    (
+        SearchOptions {
+            places: 1,
+            finals: true,
+            values: Some("count"),
+            ..OPTIONS
+        },
+        SearchFault::Values,
+    ),
+    (
+        SearchOptions {
+            places: 1,
+            finals: true,
+            values: Some("0x80000000,0x80000004,0x80000000"),
+            ..OPTIONS
+        },
+        SearchFault::ValuesTwice,
+    ),
+    (
+        SearchOptions {
+            places: 1,
+            finals: true,
+            values: Some("0x80000004,0x80000002"),
+            ..OPTIONS
+        },
+        SearchFault::NoWord,
     ),
     (
         SearchOptions {

@@ -159,6 +159,7 @@ fn options_of(case: &Case) -> SearchOptions<'static> {
         finals: false,
         lazy: 0,
         memory: 0,
+        values: None,
         only: None,
     }
 }

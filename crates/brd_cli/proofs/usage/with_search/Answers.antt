@@ -13,24 +13,27 @@ returns c =
     let with_6 = c.in_ok-arg-6.ensures.shape c.count-4.ensures.own ∙ ap₂ with_rule with_5 c.count-4.ensures.rule in
     let with_7 = c.in_ok-arg-7.ensures.shape c.flag-2.ensures.own ∙ ap₂ with_rule with_6 c.flag-2.ensures.rule in
     let with_8 = c.in_ok-arg-8.ensures.shape c.flag-3.ensures.own ∙ ap₂ with_rule with_7 c.flag-3.ensures.rule in
-    let with_9 = c.in_ok-arg-9.ensures.shape c.count-5.ensures.own ∙ ap₂ with_rule with_8 c.count-5.ensures.rule in
-    let with_10 = c.in_ok-arg-10.ensures.shape c.count-6.ensures.own ∙ ap₂ with_rule with_9 c.count-6.ensures.rule in
-    let with_11 = c.in_ok-arg-11.ensures.shape c.option-2.ensures.own ∙ ap₂ with_rule with_10 c.option-2.ensures.rule in
+    let with_9 = c.in_ok-arg-9.ensures.shape c.option-2.ensures.own ∙ ap₂ with_rule with_8 c.option-2.ensures.rule in
+    let with_10 = c.in_ok-arg-10.ensures.shape c.count-5.ensures.own ∙ ap₂ with_rule with_9 c.count-5.ensures.rule in
+    let with_11 = c.in_ok-arg-11.ensures.shape c.count-6.ensures.own ∙ ap₂ with_rule with_10 c.count-6.ensures.rule in
     let with_12 = c.in_ok-arg-12.ensures.shape c.option-3.ensures.own ∙ ap₂ with_rule with_11 c.option-3.ensures.rule in
-    let with_13 = c.in_ok-command.ensures.shape c.data_option.ensures.own ∙ ap₂ with_rule with_12 c.data_option.ensures.rule in
+    let with_13 = c.in_ok-arg-13.ensures.shape c.option-4.ensures.own ∙ ap₂ with_rule with_12 c.option-4.ensures.rule in
+    let with_14 = c.in_ok-command.ensures.shape c.data_option.ensures.own ∙ ap₂ with_rule with_13 c.data_option.ensures.rule in
     record {
-      shape = with_13;
+      shape = with_14;
       globals = λ none_yet. rw (
         c.in_ok-command.ensures.globals,
         c.data_option.ensures.own,
+        c.in_ok-arg-13.ensures.globals,
+        c.option-4.ensures.own,
         c.in_ok-arg-12.ensures.globals,
         c.option-3.ensures.own,
         c.in_ok-arg-11.ensures.globals,
-        c.option-2.ensures.own,
-        c.in_ok-arg-10.ensures.globals,
         c.count-6.ensures.own,
-        c.in_ok-arg-9.ensures.globals,
+        c.in_ok-arg-10.ensures.globals,
         c.count-5.ensures.own,
+        c.in_ok-arg-9.ensures.globals,
+        c.option-2.ensures.own,
         c.in_ok-arg-8.ensures.globals,
         c.flag-3.ensures.own,
         c.in_ok-arg-7.ensures.globals,

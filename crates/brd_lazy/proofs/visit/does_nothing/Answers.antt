@@ -6,5 +6,5 @@ use Rattle.brd_lazy.proofs.visit.does_nothing.Goals as goal
 
 pub returns : goal.returns
 returns c = λ nothing.
-    done-nothing c.args.board c.args.board (Step c.args.cpu) (record { board = c.event_apart.new.self; report = c.event_apart.result })
+    done-nothing c.args.board.now c.args.board.now (Step c.args.cpu) (record { board = c.event_apart.new.self; report = c.event_apart.result })
     c.did_nothing.result c.event_apart.ensures refl c.did_nothing.ensures ∙ ap not nothing

@@ -8,7 +8,7 @@ use Rattle.brd_reach.proofs.visit.try_other.Goals as goal
 pub returns-clause-so : goal.returns-clause-so
 returns-clause-so c = λ at rest is.
     let board_is : c.event_apart.new.self ≡ (happens c.args.board.now c.args.event).board =
-    ap (λ (done : Happened). done.board) c.event_apart.ensures ∙ ap (λ (b : BoardState). (happens b c.args.event).board) c.in_ok-last.ensures in
+    ap (λ (done : Happened). done.board) c.event_apart.ensures ∙ ap (λ (b : BoardState). (happens b c.args.event).board) c.in_ok-copy_over.ensures in
     let same : c.in-Some.rest ≡ rest = same-left c.in-Some.rest rest (sym c.in-Some.is ∙ c.paid.ensures ∙ is) in
     subst (λ (l : Left). IsPlace c.note.new.places l (happens c.args.board.now c.args.event).board) same
     (subst (IsPlace c.note.new.places c.in-Some.rest) board_is

@@ -1,0 +1,228 @@
+-- What visits have found, added to the places.
+use Rattle.std.proofs.Common.{◌≡◌, ℕ, zero, suc, ◌+◌, ◌<◌, ◌≤◌, ◌⊎◌, inl, inr, true, false, List, [], ◌∷◌, ◌++◌, length, refl, sym, ap, subst, ◌∙◌, arith}
+use Rattle.std.specs.Prelude.{replicate, slice_get, Option, Some, None, Result, Ok, Err, OnOk, IfOk}
+use Rattle.std.proofs.lemmas.List.{append_assoc, append-nil}
+use Rattle.std.proofs.lemmas.Option.{slice_get_within}
+use Rattle.brd_link.specs.LinkSet.{IsLinkSet}
+use Rattle.brd_board.specs.declared.event.Event.{Event}
+use Rattle.brd_board.specs.declared.event.Event.TheVariants.{Step, Tick, Raise}
+use Rattle.brd_board.specs.Board.{BoardState, after}
+use Rattle.brd_explore.specs.declared.wanted.Wanted.{Wanted}
+use Rattle.brd_explore.specs.Schedules.{Place, IsRicher, next, place_after, event_at}
+use Rattle.brd_explore.specs.Failures.{fails_at}
+use Rattle.brd_frames.specs.Lagging.{Sharing}
+use Rattle.brd_lazy.specs.declared.finds.Find.{Find}
+use Rattle.brd_lazy.specs.declared.visit.Tried.{Tried}
+use Rattle.brd_lazy.specs.declared.visit.Tried.TheVariants as tried
+use Rattle.brd_lazy.specs.declared.round.Round.{Round}
+use Rattle.brd_lazy.specs.declared.round.Round.TheVariants as round
+use Rattle.brd_lazy.specs.Spots.{spot_of}
+use Rattle.brd_lazy.specs.Finding.{AreDone, HasGone, HasTried, HasTriedAll, HaveTried, IsDone, IsIn, IsKnown, IsMore, VisitedSo}
+use Rattle.brd_lazy.specs.Finds.{AreGone, AreSettled, GoneSo, found_from, found_of, led_to, with_finds}
+use Rattle.brd_lazy.proofs.FindLemmas.{done-more, known-last, known-more, more-same, more-then, spot-more}
+use Rattle.brd_lazy.proofs.ScheduleLemmas.{rich-same}
+
+-- One find more.
+
+pub found-more : (spots : List Place) (finds : List Find) (find : Find) →
+    found_of spots (finds ++ find ∷ []) ≡ found_of spots finds ++ found_from find (slice_get spots find.from)
+found-more spots [] find = append-nil (found_from find (slice_get spots find.from))
+found-more spots (first ∷ finds) find =
+    ap (λ them. found_from first (slice_get spots first.from) ++ them) (found-more spots finds find)
+    ∙ sym (append_assoc (found_from first (slice_get spots first.from)) (found_of spots finds) (found_from find (slice_get spots find.from)))
+
+with-more : (spots : List Place) (old new : List Find) (find : Find) → new ≡ old ++ find ∷ [] →
+    with_finds spots new ≡ with_finds spots old ++ found_from find (slice_get spots find.from)
+with-more spots old new find is =
+    ap (with_finds spots) is
+    ∙ ap (λ them. spots ++ them) (found-more spots old find)
+    ∙ sym (append_assoc spots (found_of spots old) (found_from find (slice_get spots find.from)))
+
+pub found-is-more : (spots : List Place) (old new : List Find) (find : Find) → new ≡ old ++ find ∷ [] →
+    IsMore (with_finds spots old) (with_finds spots new)
+found-is-more spots old new find is = (found_from find (slice_get spots find.from), with-more spots old new find is)
+
+pub found-is-known : (spots : List Place) (old new : List Find) (find : Find) (b : BoardState) (p : Place) → new ≡ old ++ find ∷ [] →
+    slice_get spots find.from ≡ Some p → b ≡ after p.board (replicate find.count find.event) →
+    IsKnown (with_finds spots new) (spot_of b find.margin)
+found-is-known spots old new find b p is there leads =
+    subst (λ c. IsKnown (with_finds spots new) (spot_of c find.margin)) (sym leads)
+    (known-last (with_finds spots old) (with_finds spots new) (led_to find p)
+    (with-more spots old new find is ∙ ap (λ it. with_finds spots old ++ found_from find it) there))
+
+-- what is known among the places is known with finds
+pub known-with : (spots : List Place) (finds : List Find) (p : Place) → IsKnown spots p → IsKnown (with_finds spots finds) p
+known-with spots finds p it = known-more spots (with_finds spots finds) p (found_of spots finds, refl) it
+
+-- What a visit came to.
+
+pub visited : {E : Type 0} (by : Sharing) (among : List Event) (wanted : Wanted) (seen : List Place) (p : Place) (result : Result Tried E) →
+    fails_at wanted p.board p.left ≡ false → IfOk result (HasTriedAll by among seen p) → IfOk result (VisitedSo by among wanted seen p)
+visited by among wanted seen p (Ok tried.Done) holds it = record { holds = holds; tried = it }
+visited by among wanted seen p (Ok tried.Fails) holds it = tt
+visited by among wanted seen p (Ok (tried.Strays cpu count)) holds it = tt
+visited by among wanted seen p (Ok (tried.Unknown why)) holds it = tt
+visited by among wanted seen p (Err fault) holds it = tt
+
+-- What is known of places is known of others, if they are.
+
+rich-then : (a b c : Place) → IsRicher a b → IsRicher b c → IsRicher a c
+rich-then a b c one two = record {
+  board = one.board ∙ two.board;
+  last = one.last ∙ two.last;
+  events = omega (arith, one.events, two.events);
+  preemptions = omega (arith, one.preemptions, two.preemptions);
+  ticks = omega (arith, one.ticks, two.ticks);
+  raises = omega (arith, one.raises, two.raises);
+  owed = one.owed ∙ two.owed;
+}
+
+pub All-known : List Place → List Place → Type 0
+All-known seen spots = (q : Place) → IsIn seen q → IsKnown spots q
+
+known-through : (seen spots : List Place) (p : Place) → All-known seen spots → IsKnown seen p → IsKnown spots p
+known-through seen spots p all it =
+    let other = all it.place it.there in
+    record { place = other.place; there = other.there; richer = rich-then other.place it.place p other.richer it.richer }
+
+gone-through : (by : Sharing) (seen spots : List Place) (p : Place) (cpu : ℕ) → All-known seen spots → HasGone by seen p cpu → HasGone by spots p cpu
+gone-through by seen spots p cpu all (inl idle) = inl idle
+gone-through by seen spots p cpu all (inr (inl alone)) =
+    inr (inl (alone.0, λ did. known-through seen spots (next p (Step cpu)) all (alone.1 did)))
+gone-through by seen spots p cpu all (inr (inr (inl block))) =
+    inr (inr (inl (block.0, block.1, known-through seen spots (place_after p (replicate (suc block.0) (Step cpu))) all block.2)))
+gone-through by seen spots p cpu all (inr (inr (inr cut))) = inr (inr (inr cut))
+
+tried-through : (by : Sharing) (seen spots : List Place) (p : Place) (event : Event) → All-known seen spots → HasTried by seen p event →
+    HasTried by spots p event
+tried-through by seen spots p (Step cpu) all it = (it.0, it.1, it.2, gone-through by seen spots p cpu all it.3)
+tried-through by seen spots p Tick all it = λ did. known-through seen spots (next p Tick) all (it did)
+tried-through by seen spots p (Raise line) all it = λ did. known-through seen spots (next p (Raise line)) all (it did)
+
+done-through : (by : Sharing) (among : List Event) (wanted : Wanted) (seen spots : List Place) (p : Place) → All-known seen spots →
+    IsDone by among wanted seen p → IsDone by among wanted spots p
+done-through by among wanted seen spots p all it = record {
+  holds = it.holds;
+  tried = λ set k less left. tried-through by seen spots p (event_at among k) all (it.tried set k less left);
+}
+
+-- Finds that were settled.
+
+in-either : (xs ys : List Place) (at : ℕ) (q : Place) → slice_get (xs ++ ys) at ≡ Some q → IsIn xs q ⊎ IsIn ys q
+in-either [] ys at q is = inr (at, is)
+in-either (x ∷ xs) ys zero q is = inl (zero, is)
+in-either (x ∷ xs) ys (suc at) q is = elim (in-either xs ys at q is) [
+  | inl it ↦ inl (suc it.0, it.1)
+  | inr it ↦ inr it
+]
+
+from-known : (find : Find) (here : Option Place) (spots : List Place) (q : Place) → ((p : Place) → here ≡ Some p → IsKnown spots (led_to find p)) →
+    IsIn (found_from find here) q → IsKnown spots q
+from-known find None spots q known (at, is) = let wrong : ⊥ = cc in absurd wrong
+from-known find (Some p) spots q known (zero, is) =
+    let same : led_to find p ≡ q = cc in subst (IsKnown spots) same (known p refl)
+from-known find (Some p) spots q known (suc at, is) = let wrong : ⊥ = cc in absurd wrong
+
+found-known : (early : List Place) (finds : List Find) (spots : List Place) → AreSettled early finds (length finds) spots →
+    All-known (found_of early finds) spots
+found-known early [] spots settled q (at, is) = let wrong : ⊥ = cc in absurd wrong
+found-known early (first ∷ finds) spots settled q (at, is) =
+    elim (in-either (found_from first (slice_get early first.from)) (found_of early finds) at q is) [
+      | inl it ↦ from-known first (slice_get early first.from) spots q (λ p there. settled 0 (omega arith) first p refl there) it
+      | inr it ↦
+          found-known early finds spots (λ k less find p is there. settled (suc k) (omega (arith, less)) find p is there) q it
+    ]
+
+in-known : (spots : List Place) (q : Place) → IsIn spots q → IsKnown spots q
+in-known spots q it = record { place = q; there = it; richer = rich-same q }
+
+all-known : (early : List Place) (finds : List Find) (spots : List Place) → IsMore early spots →
+    AreSettled early finds (length finds) spots → All-known (with_finds early finds) spots
+all-known early finds spots more settled q (at, is) = elim (in-either early (found_of early finds) at q is) [
+  | inl it ↦ in-known spots q (it.0, spot-more early spots it.0 q more it.1)
+  | inr it ↦ found-known early finds spots settled q it
+]
+
+pub settled-more : (early : List Place) (finds : List Find) (upto : ℕ) (old new : List Place) → IsMore old new →
+    AreSettled early finds upto old → AreSettled early finds upto new
+settled-more early finds upto old new more settled k less find p is there =
+    known-more old new (led_to find p) more (settled k less find p is there)
+
+less-or-same : (n m : ℕ) → n < m + 1 → (n < m) ⊎ (n ≡ m)
+less-or-same n m less = grind (arith, less)
+
+same-find : (a b : Find) → Some a ≡ Some b → a ≡ b
+same-find a b is = cc
+
+pub settled-next : {E : Type 0} (early : List Place) (finds : List Find) (at : ℕ) (find : Find) (old new : List Place) → IsMore early old →
+    IsMore old new → slice_get finds at ≡ Some find → AreSettled early finds at old →
+    ((p : Place) → slice_get old find.from ≡ Some p → IsKnown new (led_to find p)) → AreSettled early finds (at + 1) new
+settled-next early finds at find old new begun more here settled known k less other p is there =
+    elim (less-or-same k at less) [
+      | inl below ↦ settled-more early finds at old new more settled k below other p is there
+      | inr same ↦
+          let it : find ≡ other = same-find find other (sym here ∙ ap (slice_get finds) (sym same) ∙ is) in
+          subst (λ f. IsKnown new (led_to f p)) it
+          (known p (spot-more early old find.from p begun (subst (λ (f : Find). slice_get early f.from ≡ Some p) (sym it) there)))
+    ]
+
+-- Places that were gone through, with finds that are settled.
+pub gone-settled : (by : Sharing) (among : List Event) (wanted : Wanted) (early : List Place) (finds : List Find) (spots : List Place)
+    (from upto : ℕ) (came : Round) → IsMore early spots → AreSettled early finds (length finds) spots →
+    GoneSo by among wanted early (with_finds early finds) from upto came → GoneSo by among wanted early spots from upto came
+gone-settled by among wanted early finds spots from upto round.Holds more settled gone at low less p is =
+    done-through by among wanted (with_finds early finds) spots p (all-known early finds spots more settled) (gone at low less p is)
+gone-settled by among wanted early finds spots from upto (round.Fails at) more settled gone = tt
+gone-settled by among wanted early finds spots from upto (round.Strays at cpu count) more settled gone = tt
+gone-settled by among wanted early finds spots from upto (round.Unknown why) more settled gone = tt
+
+-- More places that were gone through.
+
+pub gone-none : (by : Sharing) (among : List Event) (wanted : Wanted) (spots seen : List Place) (from : ℕ) →
+    AreGone by among wanted spots seen from from
+gone-none by among wanted spots seen from at low less p is = absurd (omega (arith, low, less))
+
+pub gone-more : (by : Sharing) (among : List Event) (wanted : Wanted) (spots old new : List Place) (from upto : ℕ) → IsMore old new →
+    AreGone by among wanted spots old from upto → AreGone by among wanted spots new from upto
+gone-more by among wanted spots old new from upto more gone at low less p is =
+    done-more by among wanted old new p more (gone at low less p is)
+
+pub gone-next : (by : Sharing) (among : List Event) (wanted : Wanted) (spots old new : List Place) (from upto : ℕ) → IsMore old new →
+    AreGone by among wanted spots old from upto → ((p : Place) → slice_get spots upto ≡ Some p → IsDone by among wanted new p) →
+    AreGone by among wanted spots new from (upto + 1)
+gone-next by among wanted spots old new from upto more gone here at low less p is =
+    elim (less-or-same at upto less) [
+      | inl below ↦ done-more by among wanted old new p more (gone at low below p is)
+      | inr same ↦ here p (subst (λ k. slice_get spots k ≡ Some p) same is)
+    ]
+
+less-or-more : (n m : ℕ) → (n < m) ⊎ (m ≤ n)
+less-or-more n m = grind arith
+
+pub gone-both : (by : Sharing) (among : List Event) (wanted : Wanted) (spots old new : List Place) (from middle upto : ℕ) → IsMore old new →
+    AreGone by among wanted spots old from middle → AreGone by among wanted spots new middle upto → AreGone by among wanted spots new from upto
+gone-both by among wanted spots old new from middle upto more gone other at low less p is =
+    elim (less-or-more at middle) [
+      | inl below ↦ done-more by among wanted old new p more (gone at low below p is)
+      | inr above ↦ other at above less p is
+    ]
+
+same-some : (p q : Place) → Some p ≡ Some q → p ≡ q
+same-some p q is = cc
+
+there-is : (xs : List Place) (i : ℕ) → i < length xs → (spot : Place) × (slice_get xs i ≡ Some spot)
+there-is [] i less = absurd (omega (arith, less))
+there-is (x ∷ xs) zero less = (x, refl)
+there-is (x ∷ xs) (suc i) less = there-is xs i (omega (arith, less))
+
+-- The first places have been gone through, and more of those that were there by then.
+pub done-far : (by : Sharing) (among : List Event) (wanted : Wanted) (old new : List Place) (at upto : ℕ) → IsMore old new →
+    upto ≤ length old → AreDone by among wanted old at → AreGone by among wanted old new at upto → AreDone by among wanted new upto
+done-far by among wanted old new at upto more within done gone k less p is =
+    let found = there-is old k (omega (arith, less, within)) in
+    let same : found.0 ≡ p = same-some found.0 p (sym (spot-more old new k found.0 more found.1) ∙ is) in
+    subst (IsDone by among wanted new) same
+    (elim (less-or-more k at) [
+      | inl below ↦ done-more by among wanted old new found.0 more (done k below found.0 found.1)
+      | inr above ↦ gone k above less found.0 found.1
+    ])

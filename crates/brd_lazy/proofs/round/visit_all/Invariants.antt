@@ -1,0 +1,15 @@
+-- The places so far were gone through.
+use Rattle.std.specs.Prelude.{◌-◌, ◌≤◌, length}
+use Rattle.brd_reach.specs.Rounds.{sharing_for}
+use Rattle.brd_lazy.specs.Finding.{AreDone, IsMore}
+use Rattle.brd_lazy.proofs.round.visit_all.Given as goal
+
+abbrev pub invariant-loop : goal.invariant-loop
+invariant-loop g l = record {
+  more : IsMore l.fn.spots l.spots;
+  done : AreDone (sharing_for l.sharing l.wanted) l.among l.wanted l.spots l.at;
+  within : l.at ≤ length l.spots;
+}
+
+abbrev pub decreases-loop : goal.decreases-loop
+decreases-loop g l = l.most - l.at
