@@ -225,7 +225,7 @@ while IFS='|' read -r source config words told shows; do
             "$wrong$(cmp "$work/lazy" "$work/out" || echo "; with --lazy it says '$(head -c 300 "$work/out")'")"
     fi
 done < $examples/cases
-# Without the memory for that schedules are searched one by one: more than 4,096 places don't fit into a MiB.
+# Without the memory for that schedules are searched one by one: more than 1,024 places aren't kept in a MiB.
 printf '%s\n' 'main: lui $t0, %hi(count)' 'addiu $t1, $0, 1500' 'again: sw $t1, %lo(count)($t0)' \
     'addiu $t1, $t1, -1' 'bne $t1, $0, again' nop 'addiu $v0, $0, 3' syscall '.align 4' 'count: .word 0' \
     > "$work/stores.s"
@@ -796,13 +796,17 @@ fi
 
 # ---- Refused memory
 
-# (A search that may remember states remembers fewer where a growth is refused, and says another number of schedules.)
+# (A search that may remember states remembers fewer where a growth is refused, and says another number of schedules. One
+# through places goes on one by one then.)
 assembled lost_update_right.s
 : > "$work/in"
 how=()
+explores "$image" $examples/lost_update.cfg --word count=2 --memory 0
+cp "$work/out" "$work/wanted_too"
 explores "$image" $examples/lost_update.cfg --word count=2
 cp "$work/out" "$work/wanted"
 refuse_each explore 3 "board: out of memory" "$board" explore "$image" $examples/lost_update.cfg --word count=2
+rm "$work/wanted_too"
 assembled lost_update.s
 "$board" shrink "$image" $examples/lost_update.cfg "$work/found" --word count=2 > "$work/wanted"
 refuse_each shrink 3 "board: out of memory" "$board" shrink "$image" $examples/lost_update.cfg "$work/found" \

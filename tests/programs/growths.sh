@@ -8,7 +8,7 @@ fi
 
 # refuse_each NAME STATUS ERROR PROGRAM ARGUMENT..: runs the program on $work/in, and refuses each of its growths in
 # turn. Each run ends with that status and ERROR as all of standard error (`*` stands for any text), or with everything
-# as in $work/wanted; the last, to which nothing is refused, with the latter.
+# as in $work/wanted (or $work/wanted_too, if it is there); the last, to which nothing is refused, with the former.
 refuse_each() {
     local name="$1, each growth refused in turn" refusal=$2 text=$3 n status=1 wrong=""
     shift 3
@@ -22,7 +22,8 @@ refuse_each() {
             "$@" < "$work/in" > "$work/out" 2> "$work/err"
         status=$?
         if [ "$status" = 0 ]; then
-            cmp -s "$work/out" "$work/wanted" || wrong="$wrong; growth $n: another output"
+            cmp -s "$work/out" "$work/wanted" || cmp -s "$work/out" "$work/wanted_too" 2> /dev/null ||
+                wrong="$wrong; growth $n: another output"
         elif [ "$status" != "$refusal" ]; then
             wrong="$wrong; growth $n: status $status, $(head -n 1 "$work/err")"
         else

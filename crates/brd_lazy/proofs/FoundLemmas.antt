@@ -1,6 +1,6 @@
 -- What visits have found, added to the places.
 use Rattle.std.proofs.Common.{◌≡◌, ℕ, zero, suc, ◌+◌, ◌<◌, ◌≤◌, ◌⊎◌, inl, inr, true, false, List, [], ◌∷◌, ◌++◌, length, refl, sym, ap, subst, ◌∙◌, arith}
-use Rattle.std.specs.Prelude.{replicate, slice_get, Option, Some, None, Result, Ok, Err, OnOk, IfOk}
+use Rattle.std.specs.Prelude.{replicate, slice_get, Option, Some, None, Bool, Result, Ok, Err, OnOk, IfOk}
 use Rattle.std.proofs.lemmas.List.{append_assoc, append-nil}
 use Rattle.std.proofs.lemmas.Option.{slice_get_within}
 use Rattle.brd_link.specs.LinkSet.{IsLinkSet}
@@ -12,13 +12,15 @@ use Rattle.brd_explore.specs.Schedules.{Place, IsRicher, next, place_after, even
 use Rattle.brd_explore.specs.Failures.{fails_at}
 use Rattle.brd_frames.specs.Lagging.{Sharing}
 use Rattle.brd_lazy.specs.declared.finds.Find.{Find}
+use Rattle.brd_lazy.specs.declared.spots.Margin.{Margin}
+use Rattle.brd_lazy.specs.declared.twins.Twin.{Twin}
 use Rattle.brd_lazy.specs.declared.visit.Tried.{Tried}
 use Rattle.brd_lazy.specs.declared.visit.Tried.TheVariants as tried
 use Rattle.brd_lazy.specs.declared.round.Round.{Round}
 use Rattle.brd_lazy.specs.declared.round.Round.TheVariants as round
 use Rattle.brd_lazy.specs.Spots.{spot_of}
 use Rattle.brd_lazy.specs.Finding.{AreDone, HasGone, HasTried, HasTriedAll, HaveTried, IsDone, IsIn, IsKnown, IsMore, VisitedSo}
-use Rattle.brd_lazy.specs.Finds.{AreGone, AreSettled, GoneSo, found_from, found_of, led_to, with_finds}
+use Rattle.brd_lazy.specs.Finds.{AreGone, AreSettled, Covers, GoneSo, IsTwin, LeadAlike, PartSo, found_from, found_of, led_to, with_finds}
 use Rattle.brd_lazy.proofs.FindLemmas.{done-more, known-last, known-more, more-same, more-then, spot-more}
 use Rattle.brd_lazy.proofs.ScheduleLemmas.{rich-same}
 
@@ -226,3 +228,97 @@ done-far by among wanted old new at upto more within done gone k less p is =
       | inl below ↦ done-more by among wanted old new found.0 more (done k below found.0 found.1)
       | inr above ↦ gone k above less found.0 found.1
     ])
+
+-- Finds that earlier ones cover.
+
+pub settled-twin : (early : List Place) (finds : List Find) (at : ℕ) (spots : List Place) (twin : Twin) → twin.at ≡ at →
+    IsTwin early finds twin → AreSettled early finds at spots → AreSettled early finds (at + 1) spots
+settled-twin early finds at spots twin here it settled k less find p is there =
+    elim (less-or-same k at less) [
+      | inl below ↦ settled k below find p is there
+      | inr same ↦
+          let covers = it.there.2 find (ap (slice_get finds) (here ∙ sym same) ∙ is) p there in
+          let known = settled twin.by (omega (arith, it.earlier, here)) it.there.0 covers.0 it.there.1 covers.1 in
+          record { place = known.place; there = known.there; richer = rich-then known.place (led_to it.there.0 covers.0) (led_to find p) known.richer covers.2 }
+    ]
+
+pub alike-so : (spots : List Place) (one other : Find) (b c : BoardState) → one.from < length spots →
+    ((q : Place) → slice_get spots one.from ≡ Some q → b ≡ after q.board (replicate one.count one.event)) →
+    ((p : Place) → slice_get spots other.from ≡ Some p → c ≡ after p.board (replicate other.count other.event)) → b ≡ c →
+    LeadAlike spots one other
+alike-so spots one other b c within first second same p there =
+    let found = there-is spots one.from within in
+    (found.0, found.1, sym (first found.0 found.1) ∙ same ∙ second p there)
+
+pub covers-so : {E : Type 0} (spots : List Place) (one other : Find) (result : Result Bool E) →
+    IfOk result (λ alike. alike ≡ true → LeadAlike spots one other) →
+    ((b : BoardState) → IsRicher (spot_of b one.margin) (spot_of b other.margin)) →
+    IfOk result (λ covers. covers ≡ true → Covers spots one other)
+covers-so spots one other (Err fault) alike richer = tt
+covers-so spots one other (Ok is) alike richer = λ yes p there.
+    let found = alike yes p there in (
+      found.0,
+      found.1,
+      subst (λ b. IsRicher (led_to one found.0) (spot_of b other.margin)) found.2 (richer (led_to one found.0).board),
+    )
+
+-- A part behind another one.
+
+found-both : (spots : List Place) (xs ys : List Find) → found_of spots (xs ++ ys) ≡ found_of spots xs ++ found_of spots ys
+found-both spots [] ys = refl
+found-both spots (x ∷ xs) ys =
+    ap (λ them. found_from x (slice_get spots x.from) ++ them) (found-both spots xs ys)
+    ∙ sym (append_assoc (found_from x (slice_get spots x.from)) (found_of spots xs) (found_of spots ys))
+
+with-both : (spots : List Place) (xs ys : List Find) → with_finds spots (xs ++ ys) ≡ with_finds spots xs ++ found_of spots ys
+with-both spots xs ys = ap (λ them. spots ++ them) (found-both spots xs ys) ∙ sym (append_assoc spots (found_of spots xs) (found_of spots ys))
+
+in-first : (xs ys : List Place) (q : Place) → IsIn xs q → IsIn (xs ++ ys) q
+in-first xs ys q it = (it.0, spot-more xs (xs ++ ys) it.0 q (ys, refl) it.1)
+
+in-second : (xs ys : List Place) (q : Place) → IsIn ys q → IsIn (xs ++ ys) q
+in-second [] ys q it = it
+in-second (x ∷ xs) ys q it = let rest = in-second xs ys q it in (suc rest.0, rest.1)
+
+second-known : (spots : List Place) (xs ys : List Find) → All-known (with_finds spots ys) (with_finds spots (xs ++ ys))
+second-known spots xs ys q (at, is) = elim (in-either spots (found_of spots ys) at q is) [
+  | inl it ↦ in-known (with_finds spots (xs ++ ys)) q (in-first spots (found_of spots (xs ++ ys)) q it)
+  | inr it ↦
+      in-known (with_finds spots (xs ++ ys)) q
+      (subst (λ zs. IsIn zs q) (sym (with-both spots xs ys)) (in-second (with_finds spots xs) (found_of spots ys) q it))
+]
+
+gone-second : (by : Sharing) (among : List Event) (wanted : Wanted) (spots : List Place) (xs ys : List Find) (from upto : ℕ) (came : Round) →
+    GoneSo by among wanted spots (with_finds spots ys) from upto came →
+    GoneSo by among wanted spots (with_finds spots (xs ++ ys)) from upto came
+gone-second by among wanted spots xs ys from upto round.Holds gone at low less p is =
+    done-through by among wanted (with_finds spots ys) (with_finds spots (xs ++ ys)) p (second-known spots xs ys) (gone at low less p is)
+gone-second by among wanted spots xs ys from upto (round.Fails at) gone = tt
+gone-second by among wanted spots xs ys from upto (round.Strays at cpu count) gone = tt
+gone-second by among wanted spots xs ys from upto (round.Unknown why) gone = tt
+
+gone-joined : (by : Sharing) (among : List Event) (wanted : Wanted) (spots seen : List Place) (from middle upto : ℕ) (came : Round) →
+    AreGone by among wanted spots seen from middle → GoneSo by among wanted spots seen middle upto came →
+    GoneSo by among wanted spots seen from upto came
+gone-joined by among wanted spots seen from middle upto round.Holds one other =
+    gone-both by among wanted spots seen seen from middle upto ([], sym (append-nil seen)) one other
+gone-joined by among wanted spots seen from middle upto (round.Fails at) one other = tt
+gone-joined by among wanted spots seen from middle upto (round.Strays at cpu count) one other = tt
+gone-joined by among wanted spots seen from middle upto (round.Unknown why) one other = tt
+
+holds-gone : (by : Sharing) (among : List Event) (wanted : Wanted) (spots seen : List Place) (from upto : ℕ) (came : Round) →
+    came ≡ round.Holds → GoneSo by among wanted spots seen from upto came → AreGone by among wanted spots seen from upto
+holds-gone by among wanted spots seen from upto came holds gone =
+    subst (GoneSo by among wanted spots seen from upto) holds gone
+
+pub part-follows : (by : Sharing) (among : List Event) (wanted : Wanted) (spots : List Place) (xs ys both : List Find)
+    (from middle also upto : ℕ) (came more : Round) → came ≡ round.Holds → also ≡ middle → both ≡ xs ++ ys →
+    GoneSo by among wanted spots (with_finds spots xs) from middle came → GoneSo by among wanted spots (with_finds spots ys) also upto more →
+    GoneSo by among wanted spots (with_finds spots both) from upto more
+part-follows by among wanted spots xs ys both from middle also upto came more holds same is one other =
+    subst (λ zs. GoneSo by among wanted spots (with_finds spots zs) from upto more) (sym is)
+    (gone-joined by among wanted spots (with_finds spots (xs ++ ys)) from middle upto more
+    (gone-more by among wanted spots (with_finds spots xs) (with_finds spots (xs ++ ys)) from middle (found_of spots ys, with-both spots xs ys)
+    (holds-gone by among wanted spots (with_finds spots xs) from middle came holds one))
+    (gone-second by among wanted spots xs ys middle upto more
+    (subst (λ n. GoneSo by among wanted spots (with_finds spots ys) n upto more) same other)))

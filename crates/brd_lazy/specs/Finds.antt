@@ -4,10 +4,11 @@ use Rattle.std.specs.Prelude.{◌≡◌, ℕ, ◌<◌, ◌≤◌, List, [], ◌�
 use Rattle.brd_board.specs.declared.event.Event.{Event}
 use Rattle.brd_board.specs.Board.{after}
 use Rattle.brd_explore.specs.declared.wanted.Wanted.{Wanted}
-use Rattle.brd_explore.specs.Schedules.{Place}
+use Rattle.brd_explore.specs.Schedules.{IsRicher, Place}
 use Rattle.brd_frames.specs.Lagging.{Sharing}
 use Rattle.brd_lazy.specs.declared.finds.Find.{Find}
 use Rattle.brd_lazy.specs.declared.part.Part.{Part}
+use Rattle.brd_lazy.specs.declared.twins.Twin.{Twin}
 use Rattle.brd_lazy.specs.declared.round.Round.{Round}
 use Rattle.brd_lazy.specs.declared.round.Round.TheVariants as round
 use Rattle.brd_lazy.specs.Spots.{spot_of}
@@ -49,3 +50,21 @@ abbrev pub AreSettled : List Place → List Find → ℕ → List Place → Type
 AreSettled early finds upto spots =
     (k : ℕ) → k < upto → (find : Find) (p : Place) → slice_get finds k ≡ Some find →
     slice_get early find.from ≡ Some p → IsKnown spots (led_to find p)
+
+-- two finds are of one board: that of the first one is there if that of the other one is
+abbrev pub LeadAlike : List Place → Find → Find → Type 0
+LeadAlike spots one other =
+    (p : Place) → slice_get spots other.from ≡ Some p →
+    (q : Place) × (slice_get spots one.from ≡ Some q) × ((led_to one q).board ≡ (led_to other p).board)
+
+-- a find covers another one
+abbrev pub Covers : List Place → Find → Find → Type 0
+Covers spots one other =
+    (p : Place) → slice_get spots other.from ≡ Some p →
+    (q : Place) × (slice_get spots one.from ≡ Some q) × IsRicher (led_to one q) (led_to other p)
+
+-- an earlier find covers one
+pub record IsTwin (spots : List Place) (finds : List Find) (twin : Twin) : Type 0 where
+  pub earlier : twin.by < twin.at
+  pub there : (f : Find) × (slice_get finds twin.by ≡ Some f)
+      × ((g : Find) → slice_get finds twin.at ≡ Some g → Covers spots f g)

@@ -16,6 +16,7 @@ mod seats;
 mod settle;
 mod spots;
 mod stops;
+mod twins;
 mod visit;
 
 pub use finding::{Gone, Lazily, find_lazily};

@@ -1,7 +1,13 @@
 //! Visits to places in a row, and what they come to.
 
-ghost use Rattle.std.specs.Prelude.{IfOk};
+ghost use Rattle.std.specs.Prelude.{◌≡◌, IfOk, List as ListOf, OnOk};
+ghost use Rattle.std.specs.List.{All};
+ghost use Rattle.brd_board.specs.declared.event.Event.{Event as EventOf};
+ghost use Rattle.brd_explore.specs.Schedules.{Place as PlaceOf};
+ghost use Rattle.brd_explore.specs.declared.wanted.Wanted.{Wanted as WantedOf};
+ghost use Rattle.brd_frames.specs.Lagging.{Sharing as SharingOf};
 ghost use Rattle.brd_lazy.specs.Finding.{IsMore};
+ghost use Rattle.brd_lazy.specs.declared.round.Round.TheVariants.{Holds as holds};
 ghost use Rattle.brd_lazy.specs.Finds.{GoneSo, PartSo, with_finds};
 ghost use Rattle.brd_reach.specs.Rounds.{sharing_for};
 
@@ -15,6 +21,7 @@ use brd_base::NoMemory;
 use brd_blocks::Sharing;
 use brd_board::Event;
 use brd_explore::Wanted;
+use brd_reach::Unknown;
 use std::alloc::Global;
 
 /// What visits to places in a row came to.
@@ -88,4 +95,60 @@ fn visit_row(
         }
     }
     Ok(Round::Holds)
+}
+
+/// Parts that follow one another, from the place of an index on, as one part. It goes as far as they follow, and all of
+/// their places have been visited.
+pub(crate) fn in_one(
+    alloc: Global,
+    parts: Vec<Result<Part, NoMemory>>,
+    from: usize,
+) -> Result<Part, NoMemory>
+    ensures { (by : SharingOf) (among : ListOf EventOf) (wanted : WantedOf) (spots : ListOf PlaceOf) →
+        All (λ part. IfOk part (PartSo by among wanted spots)) parts.items →
+        IfOk result (PartSo by among wanted spots) }
+{
+    let mut one = Part {
+        from,
+        upto: from,
+        finds: Vec::new(alloc),
+        stops: Stops::none(),
+        came: Round::Holds,
+    };
+    for part in parts {
+        one.add(part?)?;
+    }
+    Ok(one)
+}
+
+impl Part {
+    /// Adds a part behind it, unless it came to something else than that all places have been visited.
+    fn add(&mut self, part: Part) -> Result<(), NoMemory>
+        ensures { (by : SharingOf) (among : ListOf EventOf) (wanted : WantedOf) (spots : ListOf PlaceOf) →
+            PartSo by among wanted spots self.old → PartSo by among wanted spots part →
+            OnOk result (PartSo by among wanted spots self.new) }
+    {
+        match self.came {
+            Round::Holds => self.follow(part),
+            Round::Fails(_) | Round::Strays(_, _, _) | Round::Unknown(_) => Ok(()),
+        }
+    }
+
+    /// Adds a part behind it. If that doesn't begin there it isn't known what both come to.
+    fn follow(&mut self, part: Part) -> Result<(), NoMemory>
+        requires { self.old.came ≡ holds }
+        ensures { (by : SharingOf) (among : ListOf EventOf) (wanted : WantedOf) (spots : ListOf PlaceOf) →
+            PartSo by among wanted spots self.old → PartSo by among wanted spots part →
+            OnOk result (PartSo by among wanted spots self.new) }
+    {
+        if part.from != self.upto {
+            self.came = Round::Unknown(Unknown::Waits);
+            return Ok(());
+        }
+        self.finds.extend_from_slice(part.finds.as_slice())?;
+        self.stops.add(part.stops);
+        self.upto = part.upto;
+        self.came = part.came;
+        Ok(())
+    }
 }

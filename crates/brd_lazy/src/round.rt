@@ -7,11 +7,12 @@ ghost use Rattle.brd_lazy.specs.Finds.{GoneSo};
 ghost use Rattle.brd_reach.specs.Rounds.{sharing_for};
 
 use crate::crew::visit_by_threads;
-use crate::part::visit_part;
+use crate::part::{in_one, visit_part};
 use crate::seats::Seats;
-use crate::settle::{join, join_one};
+use crate::settle::{join_many, join_one};
 use crate::spots::Spots;
 use crate::stops::Stops;
+use crate::twins::twins_by_threads;
 use brd_base::NoMemory;
 use brd_blocks::Sharing;
 use brd_board::Event;
@@ -116,14 +117,51 @@ fn visit_some<T: Threads + Sync>(
         from upto) }
 {
     if upto.saturating_sub(from) > 1 {
-        let parts = visit_by_threads(
-            rt, alloc, threads, spots, from, upto, sharing, words, among, wanted,
-        )?;
-        return join(spots, stops, parts, from, upto, seats);
+        return visit_many(
+            rt, alloc, threads, spots, stops, from, upto, sharing, words, among, wanted,
+        );
     }
     let since = spots.len();
     let part = visit_part(
         alloc, spots, from, upto, sharing, words, among, wanted, seats,
     )?;
+    if part.from != from || part.upto != upto {
+        return Ok(Round::Unknown(Unknown::Waits));
+    }
     join_one(spots, stops, part, since, seats)
+}
+
+/// Lets threads visit the places of some indices, and adds those to which events lead from them, unless they are known.
+fn visit_many<T: Threads + Sync>(
+    rt: &T,
+    alloc: Global,
+    threads: u32,
+    spots: &mut Spots,
+    stops: &mut Stops,
+    from: usize,
+    upto: usize,
+    sharing: &Sharing,
+    words: &[u32],
+    among: &[Event],
+    wanted: &Wanted,
+) -> Result<Round, NoMemory>
+    ensures more { IsMore spots.old spots.new }
+    ensures so { IfOk result (GoneSo (sharing_for sharing.now wanted.now) among.now wanted.now spots.old spots.new
+        from upto) }
+{
+    let parts = visit_by_threads(
+        rt, alloc, threads, spots, from, upto, sharing, words, among, wanted,
+    )?;
+    let part = in_one(alloc, parts, from)?;
+    match part.came {
+        Round::Holds => {}
+        Round::Fails(at) => return Ok(Round::Fails(at)),
+        Round::Strays(at, cpu, count) => return Ok(Round::Strays(at, cpu, count)),
+        Round::Unknown(why) => return Ok(Round::Unknown(why)),
+    }
+    if part.from != from || part.upto != upto {
+        return Ok(Round::Unknown(Unknown::Waits));
+    }
+    let twins = twins_by_threads(rt, alloc, threads, spots, part.finds.as_slice())?;
+    join_many(spots, stops, part, twins.as_slice())
 }

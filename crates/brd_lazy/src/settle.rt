@@ -1,13 +1,13 @@
 //! What visits have come to is added to the places.
 
-ghost use Rattle.std.specs.Prelude.{◌≡◌, length, slice_get, IfOk, OnOk, Some, List as ListOf};
+ghost use Rattle.std.specs.Prelude.{◌≡◌, length, slice_get, true, IfOk, OnOk, Some, List as ListOf};
 ghost use Rattle.std.specs.List.{All};
 ghost use Rattle.brd_board.specs.declared.event.Event.{Event as EventOf};
 ghost use Rattle.brd_explore.specs.Schedules.{Place as PlaceOf};
 ghost use Rattle.brd_explore.specs.declared.wanted.Wanted.{Wanted as WantedOf};
 ghost use Rattle.brd_frames.specs.Lagging.{Sharing as SharingOf};
 ghost use Rattle.brd_lazy.specs.Finding.{IsKnown, IsMore};
-ghost use Rattle.brd_lazy.specs.Finds.{AreSettled, GoneSo, PartSo, led_to};
+ghost use Rattle.brd_lazy.specs.Finds.{AreSettled, GoneSo, IsTwin, PartSo, led_to};
 
 use crate::finds::Find;
 use crate::part::Part;
@@ -15,47 +15,28 @@ use crate::round::Round;
 use crate::seats::Seats;
 use crate::spots::Spots;
 use crate::stops::Stops;
+use crate::twins::{Twin, lead};
 use brd_base::NoMemory;
 use brd_board::Board;
-use brd_reach::Unknown;
 
-/// Adds what the visits to some places came to: parts of them, one after the other. If one came to something else than
-/// that all were visited, the others are left out.
-pub(crate) fn join(
+/// Adds what visits came to, which went through all of their places, but for finds that earlier ones cover.
+pub(crate) fn join_many(
     spots: &mut Spots,
     stops: &mut Stops,
-    parts: Vec<Result<Part, NoMemory>>,
-    from: usize,
-    upto: usize,
-    seats: &mut Seats,
+    part: Part,
+    twins: &[Twin],
 ) -> Result<Round, NoMemory>
+    requires { All (IsTwin spots.old part.finds.items) twins.now }
     ensures more { IsMore spots.old spots.new }
-    ensures so { (by : SharingOf) (among : ListOf EventOf) (wanted : WantedOf) →
-        All (λ part. IfOk part (PartSo by among wanted spots.old)) parts.items →
-        IfOk result (GoneSo by among wanted spots.old spots.new from upto) }
+    ensures so { (by : SharingOf) (among : ListOf EventOf) (wanted : WantedOf) → PartSo by among wanted spots.old part →
+        IfOk result (GoneSo by among wanted spots.old spots.new part.from part.upto) }
 {
-    let since = spots.len();
-    let mut next = from;
-    for part in parts {
-        let part = part?;
-        if part.from != next {
-            return Ok(Round::Unknown(Unknown::Waits));
-        }
-        next = part.upto;
-        match join_one(spots, stops, part, since, seats)? {
-            Round::Holds => {}
-            Round::Fails(at) => return Ok(Round::Fails(at)),
-            Round::Strays(at, cpu, count) => return Ok(Round::Strays(at, cpu, count)),
-            Round::Unknown(why) => return Ok(Round::Unknown(why)),
-        }
-    }
-    if next != upto {
-        return Ok(Round::Unknown(Unknown::Waits));
-    }
-    Ok(Round::Holds)
+    settle_all(spots, part.finds.as_slice(), twins)?;
+    stops.add(part.stops);
+    Ok(part.came)
 }
 
-/// Adds what the visits to places in a row came to, which were looked at when there were so many places.
+/// Adds what visits came to, which were made when there were so many places.
 pub(crate) fn join_one(
     spots: &mut Spots,
     stops: &mut Stops,
@@ -64,16 +45,32 @@ pub(crate) fn join_one(
     seats: &mut Seats,
 ) -> Result<Round, NoMemory>
     ensures more { IsMore spots.old spots.new }
-    ensures so { (by : SharingOf) (among : ListOf EventOf) (wanted : WantedOf) (early : ListOf PlaceOf) →
-        IsMore early spots.old → PartSo by among wanted early part →
-        IfOk result (GoneSo by among wanted early spots.new part.from part.upto) }
+    ensures so { (by : SharingOf) (among : ListOf EventOf) (wanted : WantedOf) → PartSo by among wanted spots.old part →
+        IfOk result (GoneSo by among wanted spots.old spots.new part.from part.upto) }
 {
     settle(spots, part.finds.as_slice(), since, seats)?;
     stops.add(part.stops);
     Ok(part.came)
 }
 
-/// Adds places that were found when there were so many places, each unless it is known by now.
+/// Adds finds, but for those that earlier ones cover.
+fn settle_all(spots: &mut Spots, finds: &[Find], twins: &[Twin]) -> Result<(), NoMemory>
+    requires { All (IsTwin spots.old finds.now) twins.now }
+    ensures more { IsMore spots.old spots.new }
+    ensures known { OnOk result (AreSettled spots.old finds.now (length finds.now) spots.new) }
+{
+    let mut next = 0;
+    for at in 0..finds.len() {
+        if next < twins.len() && twins[next].at == at {
+            next += 1;
+        } else {
+            add_find(spots, finds[at])?;
+        }
+    }
+    Ok(())
+}
+
+/// Adds finds that were made when there were so many places, each unless it is known by now.
 fn settle(
     spots: &mut Spots,
     finds: &[Find],
@@ -81,8 +78,7 @@ fn settle(
     seats: &mut Seats,
 ) -> Result<(), NoMemory>
     ensures more { IsMore spots.old spots.new }
-    ensures known { (early : ListOf PlaceOf) → IsMore early spots.old →
-        OnOk result (AreSettled early finds.now (length finds.now) spots.new) }
+    ensures known { OnOk result (AreSettled spots.old finds.now (length finds.now) spots.new) }
 {
     for find in finds {
         settle_one(spots, *find, since, &mut seats.here, &mut seats.spare)?;
@@ -90,7 +86,7 @@ fn settle(
     Ok(())
 }
 
-/// Adds such a place, unless it is known by now. (None comes from a place that isn't there.)
+/// Adds a find, unless it is known by now.
 fn settle_one(
     spots: &mut Spots,
     find: Find,
@@ -102,13 +98,13 @@ fn settle_one(
     ensures known { (p : PlaceOf) → slice_get spots.old find.from ≡ Some p →
         OnOk result (IsKnown spots.new (led_to find p)) }
 {
-    if find.from >= spots.len() || is_there(spots, find, since, here, spare)? {
+    if is_there(spots, find, since, here, spare)? {
         return Ok(());
     }
-    spots.add(find.from, find.event, find.count, find.margin, find.mark)
+    add_find(spots, find)
 }
 
-/// Whether such a place is known by now.
+/// Whether a find is known by now.
 fn is_there(
     spots: &Spots,
     find: Find,
@@ -122,7 +118,18 @@ fn is_there(
     if !spots.has_since(find.mark, since) {
         return Ok(false);
     }
-    spots.put(find.from, here)?;
-    here.repeat(find.event, find.count);
+    lead(spots, find, here)?;
     spots.is_known(here, find.margin, find.mark, spare)
+}
+
+/// Adds a find. (None comes from a place that isn't there.)
+fn add_find(spots: &mut Spots, find: Find) -> Result<(), NoMemory>
+    ensures more { IsMore spots.old spots.new }
+    ensures known { (p : PlaceOf) → slice_get spots.old find.from ≡ Some p →
+        OnOk result (IsKnown spots.new (led_to find p)) }
+{
+    if find.from >= spots.len() {
+        return Ok(());
+    }
+    spots.add(find.from, find.event, find.count, find.margin, find.mark)
 }

@@ -198,7 +198,7 @@ impl Spots {
 
 /// Whether a place with one margin covers a place with the other one, if they have the same board: the same processor
 /// has stepped last, as many raises are owed, and no less is left.
-fn is_enough(one: Margin, other: Margin) -> bool
+pub(crate) fn is_enough(one: Margin, other: Margin) -> bool
     ensures { result ≡ true → (b : BoardOf) → IsRicher (spot_of b one) (spot_of b other) }
 {
     one.last == other.last

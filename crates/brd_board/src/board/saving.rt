@@ -1,6 +1,6 @@
 //! Snapshots of a board.
 
-ghost use Rattle.std.specs.Prelude.{◌≡◌, IfOk, OnOk, OnErr};
+ghost use Rattle.std.specs.Prelude.{◌≡◌, true, IfOk, OnOk, OnErr};
 ghost use Rattle.brd_board.specs.Snapshot.{snapshot_of, restored, Fits};
 ghost use Rattle.brd_mem.specs.Memory.{size_of};
 
