@@ -8,7 +8,7 @@ ghost use Rattle.brd_only.specs.Finding.{IsMore, RoundSo};
 
 use crate::region::{Region, switches_inside};
 use crate::spots::Spots;
-use crate::visit::{Visited, visit};
+use crate::visit::{Seats, Visited, visit};
 use crate::words::busy_words;
 use brd_base::NoMemory;
 use brd_board::{Board, Event};
@@ -79,6 +79,7 @@ pub fn find_inside<W: Watch>(
     }
     let words = busy_words(alloc, board, among)?;
     let mut spots = Spots::new(alloc, board, bounds)?;
+    let mut seats = Seats::new(board)?;
     let mut counts = NONE;
     match visit_all(
         &mut spots,
@@ -88,6 +89,7 @@ pub fn find_inside<W: Watch>(
         regions,
         wanted,
         most,
+        &mut seats,
         watch,
     )? {
         Round::Holds => Ok(Inside::NoneFails(Counts {
@@ -109,6 +111,7 @@ fn visit_all<W: Watch>(
     regions: &[Region],
     wanted: &Wanted,
     most: usize,
+    seats: &mut Seats,
     watch: &mut W,
 ) -> Result<Round, Halt>
     ensures more { IsMore spots.old spots.new }
@@ -122,7 +125,7 @@ fn visit_all<W: Watch>(
         if !watch.tried(at as u64) {
             return Err(Halt::Stopped);
         }
-        match visit(spots, counts, at, words, among, regions, wanted)? {
+        match visit(spots, counts, at, words, among, regions, wanted, seats)? {
             Visited::Done => {}
             Visited::Fails => return Ok(Round::Fails(at)),
             Visited::Lost => return Ok(Round::Unknown(Unknown::Lost)),

@@ -80,11 +80,11 @@ impl Spots {
         self.margins.len()
     }
 
-    /// The board of the place of an index.
-    pub fn board(&self, i: usize) -> Result<Board, NoMemory>
-        ensures { (p : PlaceOf) → slice_get self.now i ≡ Some p → IfOk result (λ board. board ≡ p.board) }
+    /// Makes a board that of the place of an index.
+    pub fn put(&self, i: usize, board: &mut Board) -> Result<(), NoMemory>
+        ensures { (p : PlaceOf) → slice_get self.now i ≡ Some p → OnOk result (board.new ≡ p.board) }
     {
-        self.boards.board(i)
+        self.boards.put(i, board)
     }
 
     /// What the place of an index has beside its board, if there is one.

@@ -3,7 +3,7 @@
 ghost use Rattle.std.specs.Prelude.{◌≡◌, ◌<◌, length, slice_get, IfOk, OnOk, Some, true};
 ghost use Rattle.brd_explore.specs.Schedules.{Place as PlaceOf, does, next};
 ghost use Rattle.brd_only.specs.Spots.{spot_of};
-ghost use Rattle.brd_only.specs.Finding.{IsHeld, IsMore, VisitedSo};
+ghost use Rattle.brd_only.specs.Finding.{HaveGone, IsHeld, IsMore, VisitedSo};
 
 use crate::region::Region;
 use crate::spots::{Margin, Spots};
@@ -12,6 +12,7 @@ use crate::words::memory_of;
 use brd_base::NoMemory;
 use brd_board::{Board, Event};
 use brd_explore::{Bounds, Counts, Wanted, did_nothing, is_cut, is_end, stepper};
+use brd_places::copy_over;
 
 /// What a visit came to.
 #[derive(Clone, Copy, PartialEq, Eq)]
@@ -22,6 +23,25 @@ pub(crate) enum Visited {
     Fails,
     /// There is none.
     Lost,
+}
+
+/// Boards that become other ones, so that none is made anew at each place.
+#[derive(Drop)]
+pub(crate) struct Seats {
+    /// That of a place.
+    here: Board,
+    /// That to which an event leads from it.
+    last: Board,
+}
+
+impl Seats {
+    /// Two boards.
+    pub fn new(board: &Board) -> Result<Seats, NoMemory> {
+        Ok(Seats {
+            here: board.try_copy()?,
+            last: board.try_copy()?,
+        })
+    }
 }
 
 /// Visits the place of an index: looks whether it fails, and tries all events that may come there. `words` are the
@@ -35,28 +55,60 @@ pub(crate) fn visit(
     among: &[Event],
     regions: &[Region],
     wanted: &Wanted,
+    seats: &mut Seats,
 ) -> Result<Visited, NoMemory>
     requires { at < length spots.old }
     ensures more { IsMore spots.old spots.new }
     ensures so { (p : PlaceOf) → slice_get spots.old at ≡ Some p →
         IfOk result (VisitedSo among.now regions.now wanted.now spots.new p) }
 {
-    let board = spots.board(at)?;
+    spots.put(at, &mut seats.here)?;
     let Some(margin) = spots.margin(at) else {
         return Ok(Visited::Lost);
     };
-    if wanted.fails_at(&board, margin.left)? {
+    if wanted.fails_at(&seats.here, margin.left)? {
         return Ok(Visited::Fails);
     }
-    come(counts, &board, margin.left)?;
+    come(counts, &seats.here, margin.left)?;
+    try_all(
+        spots,
+        at,
+        &seats.here,
+        margin,
+        words,
+        among,
+        regions,
+        wanted,
+        &mut seats.last,
+    )?;
+    Ok(Visited::Done)
+}
+
+/// Tries all events that may come at the place of an index, which has this board and this margin.
+fn try_all(
+    spots: &mut Spots,
+    at: usize,
+    board: &Board,
+    margin: Margin,
+    words: &[u32],
+    among: &[Event],
+    regions: &[Region],
+    wanted: &Wanted,
+    last: &mut Board,
+) -> Result<(), NoMemory>
+    requires { slice_get spots.old at ≡ Some (spot_of board.now margin) }
+    ensures more { IsMore spots.old spots.new }
+    ensures gone { OnOk result
+        (HaveGone among.now regions.now wanted.now spots.new (spot_of board.now margin) (length among.now)) }
+{
     for event in among {
-        if may_go(&board, margin, *event, regions) {
+        if may_go(board, margin, *event, regions) {
             try_event(
-                spots, at, &board, margin, words, among, regions, wanted, *event,
+                spots, at, board, margin, words, among, regions, wanted, *event, last,
             )?;
         }
     }
-    Ok(Visited::Done)
+    Ok(())
 }
 
 /// Counts where schedules stop: they come to this board, where so much is left.
@@ -89,15 +141,16 @@ fn try_event(
     regions: &[Region],
     wanted: &Wanted,
     event: Event,
+    last: &mut Board,
 ) -> Result<(), NoMemory>
     requires { slice_get spots.old at ≡ Some (spot_of board.now margin) }
     ensures more { IsMore spots.old spots.new }
     ensures held { does board.now event ≡ true → OnOk result
         (IsHeld among.now regions.now wanted.now spots.new (next (spot_of board.now margin) event)) }
 {
-    let mut copy = board.try_copy()?;
+    copy_over(last, board)?;
     go_by(
-        spots, at, &mut copy, margin, words, among, regions, wanted, event,
+        spots, at, last, margin, words, among, regions, wanted, event,
     )
 }
 

@@ -281,14 +281,14 @@ fn agrees_everywhere(alloc: Global, source: &str) -> bool {
     let Some(wanted) = wanted_of(alloc, COUNT) else {
         return false;
     };
-    for place in 0..20u32 {
-        let from = 0x8000_0000 + place * 4;
+    for place in 0..12u32 {
+        let from = 0x8000_0010 + place * 4;
         let upto = from + 4 + place % 3 * 4;
-        if !agrees(alloc, &board, 24, Region { from, upto }, &wanted) {
+        if !agrees(alloc, &board, 16, Region { from, upto }, &wanted) {
             return false;
         }
     }
-    agrees(alloc, &board, 24, ALL, &wanted)
+    agrees(alloc, &board, 16, ALL, &wanted)
 }
 
 /// The first program of which a search comes to something else.

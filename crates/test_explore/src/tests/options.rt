@@ -314,7 +314,7 @@ const FAULTS: &[(SearchOptions<'static>, SearchFault)] = &[
             only: Some("0x80000010.."),
             ..OPTIONS
         },
-        SearchFault::Only,
+        SearchFault::OnlySymbol,
     ),
     (
         SearchOptions {

@@ -1,43 +1,15 @@
-use Rattle.std.proofs.Common.{sym, ap, subst, ◌∙◌, arith}
-use Rattle.std.proofs.lemmas.Bool.{false≢true}
-use Rattle.std.proofs.lemmas.List.{get_or_default}
-use Rattle.brd_board.specs.declared.event.Event.TheVariants.{Step}
+use Rattle.std.proofs.Common.{sym, ap, subst, ◌∙◌}
 use Rattle.brd_only.specs.Spots.{spot_of}
 use Rattle.brd_only.specs.Finding.{IsDone}
-use Rattle.brd_only.proofs.MoreLemmas.{gone-next, here-is, more-same, more-then, spot-more}
+use Rattle.brd_only.proofs.MoreLemmas.{here-is}
 use Rattle.brd_only.proofs.visit.visit.Goals as goal
 
-pub try_event-requires : goal.try_event-requires
-try_event-requires c =
-    spot-more c.args.spots.now c.loop-event.spots c.args.at (spot_of c.in_ok-board.board c.in-Some.margin) c.loop-event.invariant.more
-    (here-is c.args.spots.now c.args.at c.in_ok-board.board c.in-Some.margin c.requires c.in_ok-board.ensures c.in-Some.ensures)
+pub try_all-requires : goal.try_all-requires
+try_all-requires c =
+    here-is c.args.spots.now c.args.at c.put.new.board c.in-Some.margin c.requires c.in_ok-put.ensures c.in-Some.ensures
 
-pub loop-event-preserved-else-may_go : goal.loop-event-preserved-else-may_go
-loop-event-preserved-else-may_go c = record {
-  more = c.loop-event.invariant.more;
-  gone =
-      gone-next c.args.among.now c.args.regions.now c.args.wanted.now c.loop-event.spots c.loop-event.spots
-      (spot_of c.in_ok-board.board c.in-Some.margin) c.loop-event.event-index _ (more-same c.loop-event.spots) c.loop-event.invariant.gone
-      (λ may did. absurd (false≢true (sym c.if-may_go.false ∙ c.may_go.ensures ∙ may)))
-      (get_or_default c.args.among.now c.loop-event.event-index (Step 0) _ c.loop-event-test.true) c.loop-event-test.true;
-}
-
-pub loop-event-preserved : goal.loop-event-preserved
-loop-event-preserved c = record {
-  more = more-then c.args.spots.now c.loop-event.spots c.try_event.new.spots c.loop-event.invariant.more c.try_event.ensures.more;
-  gone =
-      gone-next c.args.among.now c.args.regions.now c.args.wanted.now c.loop-event.spots c.try_event.new.spots
-      (spot_of c.in_ok-board.board c.in-Some.margin) c.loop-event.event-index _ c.try_event.ensures.more c.loop-event.invariant.gone
-      (λ may did. c.in_ok-try_event.ensures.held did)
-      (get_or_default c.args.among.now c.loop-event.event-index (Step 0) _ c.loop-event-test.true) c.loop-event-test.true;
-}
-
-pub returns-clause-so : goal.returns-clause-so
-returns-clause-so c = λ p is.
-    subst (IsDone c.args.among.now c.args.regions.now c.args.wanted.now c.loop-event.spots)
-    (ap (λ b. spot_of b c.in-Some.margin) (c.in_ok-board.ensures p is) ∙ c.in-Some.ensures p is)
-    (record {
-      holds = sym c.in_ok-fails_at.ensures ∙ c.if-branch.false;
-      gone = λ k less may did.
-          c.loop-event.invariant.gone k (omega (arith, less, c.loop-event-test.false, c.loop-event.auto.event-index-end)) may did;
-    })
+pub returns-in_ok-try_all-clause-so : goal.returns-in_ok-try_all-clause-so
+returns-in_ok-try_all-clause-so c = λ p is.
+    subst (IsDone c.args.among.now c.args.regions.now c.args.wanted.now c.try_all.new.spots)
+    (ap (λ b. spot_of b c.in-Some.margin) (c.in_ok-put.ensures p is) ∙ c.in-Some.ensures p is)
+    (record { holds = sym c.in_ok-fails_at.ensures ∙ c.if-branch.false; gone = c.in_ok-try_all.ensures.gone })

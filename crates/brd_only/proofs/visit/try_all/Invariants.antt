@@ -1,7 +1,7 @@
 -- The events so far were tried.
 use Rattle.brd_only.specs.Spots.{spot_of}
 use Rattle.brd_only.specs.Finding.{HaveGone, IsMore}
-use Rattle.brd_only.proofs.visit.visit.Given as goal
+use Rattle.brd_only.proofs.visit.try_all.Given as goal
 
 abbrev pub invariant-loop-event : goal.invariant-loop-event
 invariant-loop-event l = record {
