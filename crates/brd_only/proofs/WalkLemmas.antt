@@ -84,6 +84,14 @@ walked-held among regions wanted spots p event first b rest margin count result 
     (λ it. subst (IsHeld among regions wanted spots) (sym (next-is p event first rest.left rest.last board left last))
     (walked.held spots (known-held among regions wanted spots (spot_of b margin) it))) known
 
+-- Nothing comes behind the next place.
+pub over-next : (among : List Event) (regions : List Region) (wanted : Wanted) (p : Place) (event : Event) (first : BoardState)
+    (rest : Margin) → first ≡ (happens p.board event).board → rest.left ≡ spent p.left p.last event →
+    rest.last ≡ stepper first p.last event → ((spots : List Place) → IsHeld among regions wanted spots (spot_of first rest)) →
+    (spots : List Place) → IsHeld among regions wanted spots (next p event)
+over-next among regions wanted p event first rest board left last over spots =
+    subst (IsHeld among regions wanted spots) (sym (next-is p event first rest.left rest.last board left last)) (over spots)
+
 pub walked-leads : (among : List Event) (regions : List Region) (wanted : Wanted) (b first there : BoardState) (event : Event)
     (rest margin : Margin) (count : ℕ) → first ≡ (happens b event).board →
     HasWalked among regions wanted (spot_of first rest) event (spot_of there margin) count →

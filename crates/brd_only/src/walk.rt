@@ -37,7 +37,13 @@ pub(crate) fn go_on(
 {
     let mut here = margin;
     for count in 0..MOST {
-        if stops(board, here, event, among, regions) || wanted.fails_at(board, here.left)? {
+        if stops(board, here, event, among, regions) {
+            return Ok(Some(Walk {
+                margin: here,
+                count,
+            }));
+        }
+        if wanted.fails_at(board, here.left)? {
             return Ok(Some(Walk {
                 margin: here,
                 count,

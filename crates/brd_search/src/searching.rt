@@ -181,7 +181,7 @@ fn within_regions<W: Watch>(
     ensures bounds { IfOk result (λ found. found.bounds ≡ bounds) }
     ensures stops { IfErr result (StopsSo plan.now board.now W.may_stop) }
 {
-    match find_inside(
+    let found = match find_inside(
         alloc,
         board,
         bounds,
@@ -191,20 +191,23 @@ fn within_regions<W: Watch>(
         plan.memory as usize * PLACES,
         watch,
     ) {
-        Ok(Inside::Found(events)) => Ok(Searched {
+        Ok(found) => found,
+        Err(halt) => return Err(stopped(halt)),
+    };
+    match found {
+        Inside::Found(events) => Ok(Searched {
             schedule: Some(events),
             bounds,
             counts: UNTOLD,
             lazily: true,
         }),
-        Ok(Inside::NoneFails(counts)) => Ok(Searched {
+        Inside::NoneFails(counts) => Ok(Searched {
             schedule: None,
             bounds,
             counts,
             lazily: true,
         }),
-        Ok(Inside::Unknown(_)) => Err(NoAnswer::UnknownInside),
-        Err(halt) => Err(stopped(halt)),
+        Inside::Unknown(_) => Err(NoAnswer::UnknownInside),
     }
 }
 
