@@ -131,7 +131,7 @@ without() {
         case $1 in
         --shortest) ;;
         --events | --preemptions | --ticks | --raises | --lines) shift ;;
-        --shard | --remember | --threads | --time | --lazy) shift ;;
+        --shard | --remember | --threads | --time | --lazy | --only) shift ;;
         *) options+=("$1") ;;
         esac
         shift
@@ -225,7 +225,7 @@ while IFS='|' read -r source config words told shows; do
             "$wrong$(cmp "$work/lazy" "$work/out" || echo "; with --lazy it says '$(head -c 300 "$work/out")'")"
     fi
 done < $examples/cases
-# Without the memory for that schedules are searched one by one: more than 1,024 places aren't kept in a MiB.
+# Without the memory for that schedules are searched one by one.
 printf '%s\n' 'main: lui $t0, %hi(count)' 'addiu $t1, $0, 1500' 'again: sw $t1, %lo(count)($t0)' \
     'addiu $t1, $t1, -1' 'bne $t1, $0, again' nop 'addiu $v0, $0, 3' syscall '.align 4' 'count: .word 0' \
     > "$work/stores.s"
@@ -236,6 +236,15 @@ wrong=$(is_lazily_none "$(bounds --events 20000 --preemptions 0)" $?)
 explores "${wide[@]}" --memory 1
 verdict "explore: more places than fit into a MiB" \
     "$wrong$(grep -q '^none of 2 schedules fails: ' "$work/out" || head -c 300 "$work/out")"
+# Places take no more memory than is said: without a bound these would be above 20 MiB. (Python itself takes less.)
+what="explore: no more memory than --memory says"
+if have python3 "$what"; then
+    taken=$(python3 -c 'import resource, subprocess, sys
+subprocess.run(sys.argv[1:], stdout=subprocess.DEVNULL, stderr=subprocess.DEVNULL)
+print(resource.getrusage(resource.RUSAGE_CHILDREN).ru_maxrss)' "$board" explore "$work/stores" $examples/lost_update.cfg \
+        --exception --events 600 --memory 16 --threads 1 --time 5)
+    verdict "$what" "$([ "$taken" -le $((24 * 1024)) ] || echo "$taken KiB")"
+fi
 how=(--memory 0)
 
 # ---- Without bounds: a program that is right within them is right, and what is found within them is found.
@@ -640,6 +649,40 @@ assembled peterson_right.s
 explores "$image" $examples/peterson.cfg --word inside=0..1 --events 60 --preemptions 9 --threads 3 --time 2
 verdict "explore: time is over for threads" "$(is_over $?)"
 
+# ---- Preemptions in some regions alone
+
+# is_none_inside REGIONS BOUNDS STATUS: what is wrong with such a search that should have found none.
+is_none_inside() {
+    [ "$3" = 0 ] || echo -n "; status $3, wanted 0: $(head -c 300 "$work/err")"
+    [ ! -s "$work/err" ] || echo -n "; standard error is '$(head -c 300 "$work/err")'"
+    [ "$(head -n 1 "$work/out")" = "none of the schedules fails: $2" ] &&
+        [ "$(sed -n 2p "$work/out")" = "switches only in $1" ] &&
+        sed -n 3p "$work/out" | grep -q '^looked for: .' &&
+        sed -n 4p "$work/out" | grep -qE "^[0-9]+ places? w(as|ere) gone through, (1 is an end|[0-9]+ are ends)$cut\$" ||
+        echo -n "; it says '$(head -c 300 "$work/out")'"
+}
+
+# An update is lost where a processor is preempted behind its load (at main+0x4), up to its store.
+how=()
+assembled lost_update.s
+for regions in 0x8000000c..0x80000014 0x80000010..0x80000014 main..0x80000008,0x8000000c..0x80000010; do
+    finds "lost_update.s --only $regions" $examples/lost_update.cfg 1 12 80000003=01 --word count=2 --shortest --only $regions
+done
+while IFS='|' read -r regions told; do
+    for preemptions in 1 2; do
+        explores "$image" $examples/lost_update.cfg --word count=2 --preemptions $preemptions --only $regions
+        wrong=$(is_none_inside "$told" "$(bounds --preemptions $preemptions)" $?)
+        verdict "explore: lost_update.s --only $regions --preemptions $preemptions" "$wrong"
+    done
+done << 'END'
+main..0x80000008|main..main+0x4
+count..main,0x80000014..0x80000020|count..main, main+0x10..main+0x1c
+END
+explores "$image" $examples/lost_update.cfg --word count=2 --only main..0x8000000c --memory 0
+check "explore: --only without memory" 2 "$work/nothing" \
+    "board: the search: not known: --only leaves more places than --memory holds" $?
+how=(--memory 0)
+
 # ---- Options that have no meaning
 
 assembled lost_update.s
@@ -673,6 +716,20 @@ for option in "--fair 1" "--remember 1" "--shard 1/1" "--places 10"; do
     refuses "--lazy goes with none of --fair, --places, --remember and --shard" --lazy 10 $option
 done
 refuses "not known: there are more than --lazy places" --lazy 1
+only="--only has regions of instructions with commas between them, as push..pop: from a place up to, not including, another one, each a symbol of the object file, or 0x and a hexadecimal address"
+for wrong in '' main count.main count..0x count..4294967296 'count..main,' ',count..main' 0x80000000.; do
+    refuses "$only" --only "$wrong"
+done
+for wrong in ..main count.. count..nothing nothing..main; do
+    refuses "--only names a symbol that the object file doesn't have" --only "$wrong"
+done
+for wrong in main..count count..count main..0x80000004; do
+    refuses "--only has a region whose end isn't above its start" --only "$wrong"
+done
+refuses "--only has a region twice" --only count..main,main..0x80000008,0x80000000..0x80000004
+for option in "--fair 1" "--remember 1" "--shard 1/1" "--threads 2" "--places 10" "--lazy 10"; do
+    refuses "--only goes with none of --fair, --lazy, --places, --remember, --shard and --threads" --only count..main $option
+done
 refuses "--livelock and --finals go with --places" --livelock
 refuses "--livelock and --finals go with --places" --finals
 refuses "--values goes with --finals" --places 1000 --values count

@@ -157,6 +157,7 @@ AreSearchOptions rows options = AreSizes rows options.sizes
     × IsNumberOr 0 (one_of (codes "MOST") rows) options.lazy
     × IsNumberOr 512 (one_of (codes "MEMORY") rows) options.memory
     × (option_map (λ text. text.now) options.values ≡ first_of (codes "VALUES") rows)
+    × (option_map (λ text. text.now) options.only ≡ first_of (codes "REGIONS") rows)
 
 -- the request of `explore`
 abbrev pub IsExplore : List Row → Option Request → Type 0

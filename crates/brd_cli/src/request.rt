@@ -305,6 +305,7 @@ fn search_options_of<'a>(arguments: &ArgMatches<'a>) -> SearchOptions<'a>
         lazy: number_or(arguments, "MOST", 0),
         memory: number_or(arguments, "MEMORY", USUAL_MEMORY),
         values: text_of(arguments, "VALUES"),
+        only: text_of(arguments, "REGIONS"),
     }
 }
 

@@ -1,12 +1,13 @@
 -- A search of what was read.
-use Rattle.std.proofs.Common.{◌≡◌, ℕ, ◌<◌, ◌≤◌, true, false, List, sym, inl, inr, subst, arith}
-use Rattle.std.specs.Prelude.{◌==◌, not, Option, Some, None, IfSome, Result, Ok, Err, MatchResult, option_map}
+use Rattle.std.proofs.Common.{◌≡◌, ℕ, ◌<◌, ◌≤◌, true, false, List, [], length, refl, sym, ap, inl, inr, subst, arith}
+use Rattle.std.specs.Prelude.{◌==◌, not, Option, Some, None, is_some, IfSome, Result, Ok, Err, MatchResult, option_map}
 use Rattle.brd_board.specs.declared.event.Event.{Event}
 use Rattle.brd_explore.specs.declared.bounds.Bounds.{Bounds}
 use Rattle.brd_image.specs.declared.building.Loaded.{Loaded}
 use Rattle.brd_inputs.specs.Start.{IsLoaded}
 use Rattle.brd_inputs.specs.declared.fault.CommandFault.{CommandFault}
-use Rattle.brd_search.specs.Plans.{IsPlan}
+use Rattle.brd_only.specs.declared.region.Region.{Region}
+use Rattle.brd_search.specs.Plans.{IsPlan, regions_of, text_of}
 use Rattle.brd_search.specs.Searches.{Answers, IsFewest, IsShortest, StopsSo}
 use Rattle.brd_search.specs.declared.searching.NoAnswer.{NoAnswer}
 use Rattle.brd_search.specs.declared.searching.NoAnswer.TheVariants as no_answer
@@ -16,6 +17,7 @@ use Rattle.brd_search.specs.declared.options.SearchOptions.{SearchOptions}
 use Rattle.brd_search.specs.declared.plan.Plan.{Plan}
 use Rattle.brd_threads.specs.Processors.{processors_of}
 use Rattle.brd_board.specs.Board.{BoardState}
+use Rattle.brd_mem.specs.declared.image.Symbol.{Symbol}
 use Rattle.brd_places.specs.declared.left.Left.{Left}
 use Rattle.brd_reach.specs.Reaching.{ReachedSo}
 use Rattle.brd_reach.specs.declared.searching.Reached.TheVariants as reached
@@ -84,6 +86,14 @@ isnt-known unknown.Rounds = tt
 isnt-known unknown.Fair = tt
 isnt-known unknown.Waits = tt
 
+-- where there are regions, the option says them
+said : (symbols : List Symbol) (text : Option (List ℕ)) (regions : List Region) → regions_of symbols text ≡ Ok regions →
+    0 < length regions → is_some text ≡ true
+said symbols None regions is some =
+    let none : [] ≡ regions = cc in
+    absurd (omega (arith, some, ap length none))
+said symbols (Some text) regions is some = refl
+
 pub out-of-time : (options : SearchOptions) (loaded : Loaded) (plan : Plan) (why : NoAnswer) →
     IsPlan options loaded.board (processors_of loaded.board) loaded.image.symbols plan →
     StopsSo plan loaded.board (not (plan.time == 0)) why → KeepsFromSearching options loaded (no_answer_of why)
@@ -93,7 +103,9 @@ out-of-time options loaded plan no_answer.Stopped planned stops =
 out-of-time options loaded plan (no_answer.StoppedAfter preemptions) planned stops =
     inr (inr (inl (subst (λ (n : ℕ). 0 < n) planned.time (timed plan.time stops.0), (plan, planned, stops.1, stops.2))))
 out-of-time options loaded plan (no_answer.Unknown why) planned stops =
-    inr (inr (inr (subst (λ (n : ℕ). 0 < n) planned.lazy stops, isnt-known why)))
+    inr (inr (inr (inl (subst (λ (n : ℕ). 0 < n) planned.lazy stops), isnt-known why)))
+out-of-time options loaded plan no_answer.UnknownInside planned stops =
+    inr (inr (inr (inr (said loaded.image.symbols (text_of options.only) plan.only planned.only stops), tt)))
 
 -- A search without bounds.
 

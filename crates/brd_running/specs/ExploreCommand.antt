@@ -1,6 +1,6 @@
 -- The command `explore`: what it writes for what it reads, which journal it saves, and how it ends.
 use Rattle.std.specs.Prelude.{◌≡◌, ◌⊎◌, ℕ, ◌<◌, true, false, List, ◌++◌, codes, Option, None, Some, IfSome, Result}
-use Rattle.std.specs.Prelude.{Ok, Err}
+use Rattle.std.specs.Prelude.{Ok, Err, is_some}
 use Rattle.std.specs.declared.io.Error.{Error}
 use Rattle.brd_board.specs.declared.event.Event.{Event}
 use Rattle.brd_board.specs.Board.{BoardState, after}
@@ -21,11 +21,12 @@ use Rattle.brd_reach.specs.declared.searching.Reached.TheVariants as reached
 use Rattle.brd_reach.specs.declared.unknown.Unknown.{Unknown}
 use Rattle.brd_reach.specs.declared.unknown.Unknown.TheVariants as unknown
 use Rattle.brd_search.specs.Plans.{IsPlan, KeepsFromPlanning}
+use Rattle.brd_search.specs.Plans as plans
 use Rattle.brd_search.specs.Searches.{Answers, IsFewest, IsShortest, NoneWithin}
 use Rattle.brd_search.specs.Shown.{shown}
 use Rattle.brd_search.specs.declared.fault.SearchFault.{SearchFault}
 use Rattle.brd_search.specs.declared.fault.SearchFault.TheVariants.{LongBlock, MoreLazy, MorePlaces, OverInput}
-use Rattle.brd_search.specs.declared.fault.SearchFault.TheVariants.{OutOfTime, OutOfTimeAfter, Unlearned}
+use Rattle.brd_search.specs.declared.fault.SearchFault.TheVariants.{MoreOnly, OutOfTime, OutOfTimeAfter, Unlearned}
 use Rattle.brd_search.specs.declared.searching.NoAnswer.{NoAnswer}
 use Rattle.brd_search.specs.declared.searching.NoAnswer.TheVariants as no_answer
 use Rattle.brd_search.specs.declared.options.SearchOptions.{SearchOptions}
@@ -46,7 +47,8 @@ Tells plan b (Some events) text journal =
 
 -- The text and the journal tell what a search of a board within bounds has answered, which is so: the schedule is
 -- within the bounds and fails, or none of the plan's shard within them does. None fails with fewer preemptions than a
--- schedule's bounds leave; or if the shortest is asked for, none with fewer events within the plan's.
+-- schedule's bounds leave; or if the shortest is asked for, none with fewer events within the plan's. If the plan has
+-- regions, this is said of the schedules that keep to them.
 pub record IsSearched (plan : Plan) (b : BoardState) (text : List ℕ) (journal : Option (List ℕ)) : Type 0 where
   pub bounds : Bounds
   pub schedule : Option (List Event)
@@ -103,6 +105,7 @@ pub record IsTold (options : SearchOptions) (loaded : Loaded) (text : List ℕ) 
 abbrev pub IsUnknown : SearchFault → Type 0
 IsUnknown MorePlaces = Unit {0}
 IsUnknown MoreLazy = Unit {0}
+IsUnknown MoreOnly = Unit {0}
 IsUnknown LongBlock = Unit {0}
 IsUnknown Unlearned = Unit {0}
 IsUnknown _ = ⊥
@@ -124,6 +127,7 @@ no_answer_of no_answer.NoMemory = NoMemory
 no_answer_of no_answer.Stopped = Search OutOfTime
 no_answer_of (no_answer.StoppedAfter preemptions) = Search (OutOfTimeAfter preemptions)
 no_answer_of (no_answer.Unknown why) = Search (lazy_fault_of why)
+no_answer_of no_answer.UnknownInside = Search MoreOnly
 
 -- The time of a search by a plan of the options is over: nothing is known; or no schedule of the plan's shard fails
 -- with up to so many preemptions, which are fewer than the plan's, and else within its bounds.
@@ -138,13 +142,14 @@ IsOutOfTime options loaded _ = ⊥
 -- What keeps a search of a board from being told: want of memory, or what is wrong with its options; or its time, if
 -- that is bounded, is over. (No journal of one within bounds is too long: a schedule has a million events at most, and
 -- its fair end 20,000 rounds of 129.) Without bounds it is also what isn't known, or a journal of too many events; by
--- lazy schedules what isn't known.
+-- lazy schedules, and by those that keep to regions, what isn't known.
 abbrev pub KeepsFromSearching : SearchOptions → Loaded → CommandFault → Type 0
 KeepsFromSearching options loaded NoMemory = Unit {0}
 KeepsFromSearching options loaded (Search fault) =
     KeepsFromPlanning options loaded.board (processors_of loaded.board) loaded.image.symbols fault
     ⊎ (((0 < options.places) × IsUnknown fault)
-    ⊎ (((0 < options.time) × IsOutOfTime options loaded fault) ⊎ ((0 < options.lazy) × IsUnknown fault)))
+    ⊎ (((0 < options.time) × IsOutOfTime options loaded fault)
+    ⊎ (((0 < options.lazy) ⊎ (is_some (plans.text_of options.only) ≡ true)) × IsUnknown fault)))
 KeepsFromSearching options loaded (Schedule TooLong) = 0 < options.places
 KeepsFromSearching options loaded _ = ⊥
 

@@ -196,6 +196,7 @@ fn no_answer_of(why: NoAnswer) -> CommandFault
             CommandFault::Search(SearchFault::OutOfTimeAfter { preemptions })
         }
         NoAnswer::Unknown(why) => CommandFault::Search(lazy_fault_of(why)),
+        NoAnswer::UnknownInside => CommandFault::Search(SearchFault::MoreOnly),
     }
 }
 

@@ -72,6 +72,25 @@ pub enum SearchFault {
     /// A search by lazy schedules is to do what it doesn't know.
     #[error("--lazy goes with none of --fair, --places, --remember and --shard")]
     Lazy,
+    /// A region isn't one.
+    #[error("--only has regions of instructions with commas between them, as push..pop: from a place up to, not \
+         including, another one, each a symbol of the object file, or 0x and a hexadecimal address")]
+    Only,
+    /// A place of a region is no symbol of the image.
+    #[error("--only names a symbol that the object file doesn't have")]
+    OnlySymbol,
+    /// A region has no instruction.
+    #[error("--only has a region whose end isn't above its start")]
+    OnlyEmpty,
+    /// A region is there twice.
+    #[error("--only has a region twice")]
+    OnlyTwice,
+    /// A search that preempts in regions alone is to do what it doesn't know.
+    #[error("--only goes with none of --fair, --lazy, --places, --remember, --shard and --threads")]
+    OnlyAlone,
+    /// Such a search has come to no answer: there are more places.
+    #[error("not known: --only leaves more places than --memory holds")]
+    MoreOnly,
     /// The time of a search is over, and of no schedule it is known whether it fails.
     #[error("not known: --time is over")]
     OutOfTime,

@@ -13,6 +13,7 @@ pub mod laws;
 mod options;
 mod plan;
 mod raises;
+mod regions;
 mod searching;
 mod shown;
 mod told;

@@ -67,4 +67,7 @@ pub struct SearchOptions<'a> {
     pub memory: u32,
     /// The words whose values such a list has beside the consoles, as `count,0x80000010`.
     pub values: Option<&'a str>,
+    /// In which regions of instructions a processor may be preempted, as `push..pop,lock..unlock`: from a place up to,
+    /// not including, another one. Nothing: anywhere.
+    pub only: Option<&'a str>,
 }

@@ -5,17 +5,20 @@ ghost use Rattle.std.specs.Prelude.{◌≡◌, true, false};
 ghost use Rattle.brd_search.specs.Plans.{IsPlan, KeepsFromPlanning, IsSized, IsOfSizes, IsShard, IsNoShard, text_of};
 ghost use Rattle.brd_search.specs.Plans.{DontFit, IsOfEnds, IsOfTime, is_plain, places_fit, time_fits};
 ghost use Rattle.brd_search.specs.Plans.{IsOfLazy, is_simple, lazy_fits, memory_of};
+ghost use Rattle.brd_search.specs.Plans.{IsOfOnly, is_bare, only_fits};
 
 use crate::coming::{check_lines, may_come};
 use crate::fault::SearchFault;
 use crate::options::{SearchOptions, Sizes};
 use crate::raises::{Raises, raises_of};
+use crate::regions::regions_of;
 use crate::values::values_of;
 use crate::wanting::wanted_of;
 use brd_base::List;
 use brd_board::{Board, Event};
 use brd_explore::{Bounds, Shard, Wanted};
 use brd_mem::Symbol;
+use brd_only::Region;
 use brd_text::{parted, plain_decimal};
 use std::alloc::Global;
 
@@ -62,6 +65,8 @@ pub struct Plan {
     pub memory: u32,
     /// The addresses of the words whose values such a list has beside the consoles.
     pub values: List<u32>,
+    /// In which regions of instructions a processor may be preempted; none: anywhere.
+    pub only: List<Region>,
 }
 
 /// Written out, so that a function that lets one go is proved with a call.
@@ -82,6 +87,7 @@ impl Drop for Plan {
             lazy: _,
             memory: _,
             values: _,
+            only: _,
         } = self;
     }
 }
@@ -104,6 +110,7 @@ pub fn plan_of(
     check_places(options)?;
     check_time(options)?;
     check_lazy(options)?;
+    check_only(options)?;
     let raises = raises_of(options.raises)?;
     let bounds = bounds_of(options, raises)?;
     let shard = shard_of(options.shard)?;
@@ -111,6 +118,7 @@ pub fn plan_of(
     check_lines(board, among.as_slice())?;
     let wanted = wanted_of(alloc, &options.looks, options.sizes.fair, cpus, symbols)?;
     let values = values_of(alloc, options, board, symbols)?;
+    let only = regions_of(alloc, options.only, symbols)?;
     Ok(Plan {
         bounds,
         among,
@@ -126,6 +134,7 @@ pub fn plan_of(
         lazy: options.lazy,
         memory: memory_of(options),
         values,
+        only,
     })
 }
 
@@ -178,6 +187,28 @@ fn lazy_fits(options: &SearchOptions<'_>) -> bool
     ensures { result ≡ lazy_fits options.now }
 {
     options.lazy == 0 || is_simple(options)
+}
+
+/// A search that preempts in regions alone goes through the whole within bounds, by one thread, and to no fair end.
+fn check_only(options: &SearchOptions<'_>) -> Result<(), SearchFault>
+    ensures { MatchResult result (λ _. only_fits options.now ≡ true) (IsOfOnly (only_fits options.now)) }
+{
+    if options.only.is_none() || is_bare(options) {
+        return Ok(());
+    }
+    Err(SearchFault::OnlyAlone)
+}
+
+/// Whether options ask for nothing that such a search doesn't know.
+fn is_bare(options: &SearchOptions<'_>) -> bool
+    ensures { result ≡ is_bare options.now }
+{
+    options.shard.is_none()
+        && options.sizes.fair == 0
+        && options.remember == 0
+        && options.threads == 0
+        && options.places == 0
+        && options.lazy == 0
 }
 
 /// How many MiB of places a search remembers that isn't told whether to go by the lazy schedules alone: none if it is to

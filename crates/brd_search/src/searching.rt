@@ -1,8 +1,9 @@
 //! The search itself: with few preemptions first, and then shorter.
 
 ghost use Rattle.std.specs.Prelude.{option_map, ◌≡◌, ◌≤◌, ◌<◌, Bool, true, false, IfErr, IfOk, IfSome, IfNone};
+ghost use Rattle.std.specs.Prelude.{length};
 ghost use Rattle.brd_search.specs.Searches.{Answers, AnswersWithin, IsFewer, IsFewest, IsLeast, IsShortest, NoneBelow};
-ghost use Rattle.brd_search.specs.Searches.{StopsSo};
+ghost use Rattle.brd_search.specs.Searches.{AnswersWhole, StopsSo};
 ghost use Rattle.brd_search.specs.declared.plan.Plan.{Plan as PlanOf};
 ghost use Rattle.brd_board.specs.Board.{BoardState as BoardOf};
 ghost use Rattle.brd_explore.specs.Searching.{HaltsSo};
@@ -13,6 +14,7 @@ use brd_board::{Board, Event};
 use brd_crew::find_by_threads;
 use brd_explore::{Bounds, Counts, Found, Halt, Watch};
 use brd_lazy::{Gone, Lazily, Stops, find_lazily};
+use brd_only::{Inside, find_inside};
 use brd_reach::Unknown;
 use std::alloc::Global;
 use std::thread::{Threads, available_parallelism};
@@ -24,10 +26,10 @@ pub struct Searched {
     pub schedule: Option<Vec<Event>>,
     /// The bounds within which it was found; those of the whole search where none was.
     pub bounds: Bounds,
-    /// The schedules that were searched: all of those within the bounds if none was found. By the lazy ones alone the
-    /// places.
+    /// The schedules that were searched: all of those within the bounds if none was found. By the lazy ones alone, or by
+    /// those that keep to regions, the places.
     pub counts: Counts,
-    /// Whether the lazy ones alone were searched.
+    /// Whether places were gone through: of the lazy ones alone, or of those that keep to regions.
     pub lazily: bool,
 }
 
@@ -43,6 +45,8 @@ pub enum NoAnswer {
     StoppedAfter(u32),
     /// By the lazy schedules alone it isn't known, for this reason.
     Unknown(Unknown),
+    /// By the schedules that keep to the plan's regions it isn't known: there are more places than are remembered.
+    UnknownInside,
 }
 
 impl From<NoMemory> for NoAnswer {
@@ -141,8 +145,7 @@ fn no_answer(why: NoAnswer, preemptions: u32) -> NoAnswer
     }
 }
 
-/// Searches the schedules within bounds: the lazy ones alone if that is asked for; or first these, if they may be, and if
-/// it isn't known by them, all.
+/// Searches the schedules within bounds; if the plan has regions, those that keep to them.
 fn within<T: Threads + Sync, W: Watch + Send>(
     rt: &T,
     alloc: Global,
@@ -158,11 +161,86 @@ fn within<T: Threads + Sync, W: Watch + Send>(
     ensures bounds { IfOk result (λ found. found.bounds ≡ bounds) }
     ensures stops { IfErr result (StopsSo plan.now board.now W.may_stop) }
 {
-    let most = most_places(plan, lazily);
-    if most == 0 {
-        return within_all(rt, alloc, board, plan, bounds, watch);
+    if plan.only.len() > 0 {
+        return within_regions(alloc, board, plan, bounds, watch);
     }
-    match within_lazily(rt, alloc, board, plan, most, bounds, watch) {
+    within_whole(rt, alloc, board, plan, lazily, bounds, watch)
+}
+
+/// Searches those that keep to the plan's regions.
+fn within_regions<W: Watch>(
+    alloc: Global,
+    board: &Board,
+    plan: &Plan,
+    bounds: Bounds,
+    watch: &mut W,
+) -> Result<Searched, NoAnswer>
+    requires { 0 < length plan.now.only }
+    ensures is { IfOk result
+        (λ found. AnswersWithin plan.now board.now bounds (option_map (λ events. events.items) found.schedule)) }
+    ensures bounds { IfOk result (λ found. found.bounds ≡ bounds) }
+    ensures stops { IfErr result (StopsSo plan.now board.now W.may_stop) }
+{
+    let found = match find_inside(
+        alloc,
+        board,
+        bounds,
+        plan.among.as_slice(),
+        plan.only.as_slice(),
+        &plan.wanted,
+        plan.memory as usize * PLACES,
+        watch,
+    ) {
+        Ok(found) => found,
+        Err(halt) => return Err(stopped(halt)),
+    };
+    match found {
+        Inside::Found(events) => Ok(Searched {
+            schedule: Some(events),
+            bounds,
+            counts: UNTOLD,
+            lazily: true,
+        }),
+        Inside::NoneFails(counts) => Ok(Searched {
+            schedule: None,
+            bounds,
+            counts,
+            lazily: true,
+        }),
+        Inside::Unknown(_) => Err(NoAnswer::UnknownInside),
+    }
+}
+
+/// What stands for the counts of a search that has found a schedule: they aren't told.
+const UNTOLD: Counts = Counts {
+    tried: 0,
+    ended: 0,
+    out_of_events: 0,
+    out_of_ticks: 0,
+    spare: 0,
+};
+
+/// Searches the schedules within bounds: the lazy ones alone if that is asked for; or first these, if they may be, and if
+/// it isn't known by them, all.
+fn within_whole<T: Threads + Sync, W: Watch + Send>(
+    rt: &T,
+    alloc: Global,
+    board: &Board,
+    plan: &Plan,
+    lazily: bool,
+    bounds: Bounds,
+    watch: &mut W,
+) -> Result<Searched, NoAnswer>
+    requires { 0 < plan.now.shard.of }
+    ensures is { IfOk result
+        (λ found. AnswersWhole plan.now board.now bounds (option_map (λ events. events.items) found.schedule)) }
+    ensures bounds { IfOk result (λ found. found.bounds ≡ bounds) }
+    ensures stops { IfErr result (StopsSo plan.now board.now W.may_stop) }
+{
+    let Some(room) = room_for(plan, lazily) else {
+        return within_all(rt, alloc, board, plan, bounds, watch);
+    };
+    match within_lazily(rt, alloc, board, plan, room, bounds, watch) {
         Ok(Ok(searched)) => Ok(searched),
         Ok(Err(why)) if plan.lazy > 0 => Err(NoAnswer::Unknown(why)),
         Ok(Err(_)) => within_all(rt, alloc, board, plan, bounds, watch),
@@ -171,19 +249,33 @@ fn within<T: Threads + Sync, W: Watch + Send>(
     }
 }
 
-/// How many places of a search by lazy schedules a MiB holds, at least (own choice): they have 140 bytes to 1 KiB each.
+/// How many places of a search that keeps to regions a MiB holds, about (own choice).
 const PLACES: usize = 1_024;
 
-/// Through how many places a search by the lazy schedules alone goes at most, if it may be made; 0: there is none.
-fn most_places(plan: &Plan, lazily: bool) -> usize {
+/// The room for the places of a search by the lazy schedules alone.
+#[derive(Clone, Copy)]
+struct Room {
+    /// How many places.
+    most: usize,
+    /// How many bytes.
+    bytes: usize,
+}
+
+/// The room for such a search, if it may be made.
+fn room_for(plan: &Plan, lazily: bool) -> Option<Room> {
     if plan.lazy > 0 {
-        return plan.lazy as usize;
+        return Some(Room {
+            most: plan.lazy as usize,
+            bytes: usize::MAX,
+        });
     }
-    if lazily {
-        plan.memory as usize * PLACES
-    } else {
-        0
+    if !lazily || plan.memory == 0 {
+        return None;
     }
+    Some(Room {
+        most: usize::MAX,
+        bytes: plan.memory as usize * MEBIBYTE,
+    })
 }
 
 /// Searches them one by one.
@@ -197,7 +289,7 @@ fn within_all<T: Threads + Sync, W: Watch + Send>(
 ) -> Result<Searched, NoAnswer>
     requires { 0 < plan.now.shard.of }
     ensures is { IfOk result
-        (λ found. AnswersWithin plan.now board.now bounds (option_map (λ events. events.items) found.schedule)) }
+        (λ found. AnswersWhole plan.now board.now bounds (option_map (λ events. events.items) found.schedule)) }
     ensures bounds { IfOk result (λ found. found.bounds ≡ bounds) }
     ensures stops { IfErr result (StopsSo plan.now board.now W.may_stop) }
 {
@@ -223,18 +315,18 @@ fn within_all<T: Threads + Sync, W: Watch + Send>(
     }
 }
 
-/// Searches the lazy ones alone, through so many places at most: what that came to, or why it isn't known.
+/// Searches the lazy ones alone, as far as there is room for places: what that came to, or why it isn't known.
 fn within_lazily<T: Threads + Sync, W: Watch>(
     rt: &T,
     alloc: Global,
     board: &Board,
     plan: &Plan,
-    most: usize,
+    room: Room,
     bounds: Bounds,
     watch: &mut W,
 ) -> Result<Result<Searched, Unknown>, Halt>
     ensures is { IfOk result (λ known. IfOk known
-        (λ found. AnswersWithin plan.now board.now bounds (option_map (λ events. events.items) found.schedule))) }
+        (λ found. AnswersWhole plan.now board.now bounds (option_map (λ events. events.items) found.schedule))) }
     ensures bounds { IfOk result (λ known. IfOk known (λ found. found.bounds ≡ bounds)) }
     ensures halts { IfErr result (HaltsSo W.may_stop) }
 {
@@ -246,7 +338,8 @@ fn within_lazily<T: Threads + Sync, W: Watch>(
         bounds,
         plan.among.as_slice(),
         &plan.wanted,
-        most,
+        room.most,
+        room.bytes,
         watch,
     )?;
     match found {

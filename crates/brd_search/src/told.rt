@@ -9,6 +9,7 @@ use brd_explore::{Bounds, Comparison, Condition, Counts, Ending, Failure, Term, 
 use brd_isa::decode;
 use brd_listing::{write_instruction, write_place};
 use brd_mem::Symbol;
+use brd_only::Region;
 use brd_text::hex_digits;
 use brd_word::word_of;
 use std::alloc::Global;
@@ -85,8 +86,27 @@ pub fn put_none(
     put_ends(alloc, plan, counts, out)
 }
 
-/// Puts at the end that of the schedules within bounds none fails, where the lazy ones alone were searched, through
-/// places that are counted so.
+/// Puts at the end a line of the regions in which a processor may be preempted, if there are any.
+fn put_only(symbols: &[Symbol], regions: &[Region], out: &mut Vec<u8>) -> Result<(), NoMemory> {
+    if regions.is_empty() {
+        return Ok(());
+    }
+    put(out, "switches only in ")?;
+    let mut others = false;
+    for region in regions {
+        if others {
+            put(out, ", ")?;
+        }
+        write_place(symbols, region.from, out)?;
+        put(out, "..")?;
+        write_place(symbols, region.upto, out)?;
+        others = true;
+    }
+    put(out, "\n")
+}
+
+/// Puts at the end that of the schedules within bounds none fails, where places were gone through, which are counted so:
+/// by the lazy ones alone, or by those that keep to regions.
 fn put_none_lazily(
     alloc: Global,
     symbols: &[Symbol],
@@ -97,6 +117,7 @@ fn put_none_lazily(
     put(out, "the schedules fails: at most ")?;
     put_bounds(alloc, out, plan.bounds)?;
     put(out, "\n")?;
+    put_only(symbols, plan.only.as_slice(), out)?;
     put_looked_for(alloc, symbols, plan, out)?;
     put_gone(alloc, counts.tried, counts.ended, out)?;
     put_cut(alloc, counts.out_of_events, "--events", out)?;

@@ -2,6 +2,7 @@
 //! searches are asked for.
 
 mod find;
+mod only;
 mod options;
 mod shrink;
 mod sources;

@@ -175,6 +175,7 @@ const SEARCH: SearchOptions<'static> = SearchOptions {
     lazy: 0,
     memory: 0,
     values: None,
+    only: None,
 };
 
 /// The options of a journal that is made shorter.

@@ -401,13 +401,14 @@ fn lazy_search_of<T: Threads + Sync>(
         case.among,
         &wanted,
         100_000,
+        usize::MAX,
         &mut Nobody,
     )
     .ok()
 }
 
 /// What is told of it.
-fn told_of(searched: &Option<Lazily>) -> Told {
+fn lazily_told(searched: &Option<Lazily>) -> Told {
     match searched {
         Some(Lazily::Found(_)) => Told::Fails,
         Some(Lazily::NoneFails(_)) => Told::NoneFails,
@@ -432,7 +433,7 @@ fn goes_well_lazily<T: Threads + Sync>(rt: &T, alloc: Global, case: &Case) -> bo
     };
     let one = lazy_search_of(rt, alloc, 1, &board, case);
     let three = lazy_search_of(rt, alloc, 3, &board, case);
-    agree_lazily(told_of(&one), case.answer) && are_same(&one, &three)
+    agree_lazily(lazily_told(&one), case.answer) && are_same(&one, &three)
 }
 
 /// Whether what is told of a lazy search is what is wanted.

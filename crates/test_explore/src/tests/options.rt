@@ -44,6 +44,7 @@ const OPTIONS: SearchOptions = SearchOptions {
     lazy: 0,
     memory: 0,
     values: None,
+    only: None,
 };
 
 /// Options, and what is wrong with them.
@@ -293,6 +294,94 @@ const FAULTS: &[(SearchOptions<'static>, SearchFault)] = &[
             ..OPTIONS
         },
         SearchFault::Shard,
+    ),
+    (
+        SearchOptions {
+            only: Some("0x80000010"),
+            ..OPTIONS
+        },
+        SearchFault::Only,
+    ),
+    (
+        SearchOptions {
+            only: Some("0x80000010.0x80000020"),
+            ..OPTIONS
+        },
+        SearchFault::Only,
+    ),
+    (
+        SearchOptions {
+            only: Some("0x80000010.."),
+            ..OPTIONS
+        },
+        SearchFault::OnlySymbol,
+    ),
+    (
+        SearchOptions {
+            only: Some("..0x80000010"),
+            ..OPTIONS
+        },
+        SearchFault::OnlySymbol,
+    ),
+    (
+        SearchOptions {
+            only: Some("main..0x80000020"),
+            ..OPTIONS
+        },
+        SearchFault::OnlySymbol,
+    ),
+    (
+        SearchOptions {
+            only: Some("0x80000010..0x80000020,"),
+            ..OPTIONS
+        },
+        SearchFault::Only,
+    ),
+    (
+        SearchOptions {
+            only: Some("0x80000010..0x80000010"),
+            ..OPTIONS
+        },
+        SearchFault::OnlyEmpty,
+    ),
+    (
+        SearchOptions {
+            only: Some("0x80000010..0x80000020,0x80000010..0x80000020"),
+            ..OPTIONS
+        },
+        SearchFault::OnlyTwice,
+    ),
+    (
+        SearchOptions {
+            only: Some("0x80000010..0x80000020"),
+            lazy: 1,
+            ..OPTIONS
+        },
+        SearchFault::OnlyAlone,
+    ),
+    (
+        SearchOptions {
+            only: Some("0x80000010..0x80000020"),
+            remember: 1,
+            ..OPTIONS
+        },
+        SearchFault::OnlyAlone,
+    ),
+    (
+        SearchOptions {
+            only: Some("0x80000010..0x80000020"),
+            threads: 1,
+            ..OPTIONS
+        },
+        SearchFault::OnlyAlone,
+    ),
+    (
+        SearchOptions {
+            only: Some("0x80000010..0x80000020"),
+            shard: Some("1/2"),
+            ..OPTIONS
+        },
+        SearchFault::OnlyAlone,
     ),
 ];
 

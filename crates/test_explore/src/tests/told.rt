@@ -160,6 +160,7 @@ fn options_of(case: &Case) -> SearchOptions<'static> {
         lazy: 0,
         memory: 0,
         values: None,
+        only: None,
     }
 }
 

@@ -17,12 +17,15 @@ returns c =
     let with_10 = c.in_ok-arg-10.ensures.shape c.count-5.ensures.own ∙ ap₂ with_rule with_9 c.count-5.ensures.rule in
     let with_11 = c.in_ok-arg-11.ensures.shape c.count-6.ensures.own ∙ ap₂ with_rule with_10 c.count-6.ensures.rule in
     let with_12 = c.in_ok-arg-12.ensures.shape c.option-3.ensures.own ∙ ap₂ with_rule with_11 c.option-3.ensures.rule in
-    let with_13 = c.in_ok-command.ensures.shape c.data_option.ensures.own ∙ ap₂ with_rule with_12 c.data_option.ensures.rule in
+    let with_13 = c.in_ok-arg-13.ensures.shape c.option-4.ensures.own ∙ ap₂ with_rule with_12 c.option-4.ensures.rule in
+    let with_14 = c.in_ok-command.ensures.shape c.data_option.ensures.own ∙ ap₂ with_rule with_13 c.data_option.ensures.rule in
     record {
-      shape = with_13;
+      shape = with_14;
       globals = λ none_yet. rw (
         c.in_ok-command.ensures.globals,
         c.data_option.ensures.own,
+        c.in_ok-arg-13.ensures.globals,
+        c.option-4.ensures.own,
         c.in_ok-arg-12.ensures.globals,
         c.option-3.ensures.own,
         c.in_ok-arg-11.ensures.globals,

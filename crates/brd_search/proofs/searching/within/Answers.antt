@@ -1,5 +1,7 @@
+use Rattle.std.proofs.Common.{arith}
+use Rattle.brd_search.proofs.RegionLemmas.{whole-answers}
 use Rattle.brd_search.proofs.searching.within.Goals as goal
 
-pub returns-in-Err-clause-stops : goal.returns-in-Err-clause-stops
-returns-in-Err-clause-stops g c =
-    c.stopped.ensures c.args.plan.now c.args.board.now g.W.Watch.may_stop c.in-Err.ensures.halts
+pub returns-clause-is : goal.returns-clause-is
+returns-clause-is g c =
+    whole-answers c.args.plan.now c.args.board.now c.args.bounds c.within_whole.result (omega arith) c.within_whole.ensures.is

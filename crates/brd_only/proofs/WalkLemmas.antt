@@ -1,0 +1,113 @@
+-- Walks: the same event again and again, where no other one may come.
+use Rattle.std.proofs.Common.{◌≡◌, ℕ, zero, suc, ◌+◌, ◌<◌, ◌≤◌, ◌⊎◌, inl, inr, true, false, List, [], ◌∷◌, length, refl, sym, ap, subst, ◌∙◌, arith}
+use Rattle.std.specs.Prelude.{get_or, replicate, Result, Ok, Err, OnOk, Option}
+use Rattle.std.proofs.lemmas.Bool.{false≢true}
+use Rattle.std.proofs.lemmas.List.{get_or_default}
+use Rattle.brd_board.specs.declared.event.Event.{Event}
+use Rattle.brd_board.specs.declared.event.Event.TheVariants.{Tick}
+use Rattle.brd_board.specs.Board.{BoardState, happens, after}
+use Rattle.brd_explore.specs.declared.bounds.Bounds.{Bounds}
+use Rattle.brd_explore.specs.declared.wanted.Wanted.{Wanted}
+use Rattle.brd_explore.specs.Failures.{fails_at}
+use Rattle.brd_explore.specs.Schedules.{Place, does, stepper, spent, next, event_at}
+use Rattle.brd_only.specs.declared.region.Region.{Region}
+use Rattle.brd_only.specs.declared.spots.Margin.{Margin}
+use Rattle.brd_only.specs.Spots.{spot_of}
+use Rattle.brd_only.specs.Finding.{IsKnown, may_go, IsAlone, HeldBy, IsHeld, HasWalked}
+use Rattle.brd_only.proofs.MoreLemmas.{known-held, less-or-same}
+use Rattle.brd_only.proofs.PathLemmas.{next-is}
+
+-- one event more
+after-more : (b : BoardState) (event : Event) (n : ℕ) →
+    (happens (after b (replicate n event)) event).board ≡ after b (replicate (suc n) event)
+after-more b event zero = refl
+after-more b event (suc n) = after-more (happens b event).board event n
+
+plus-one : (n : ℕ) → suc n ≡ n + 1
+plus-one n = omega arith
+
+-- Where no other event may come, a place is held if the next one is.
+pub alone-held : (among : List Event) (regions : List Region) (wanted : Wanted) (spots : List Place) (p : Place) (event : Event) →
+    fails_at wanted p.board p.left ≡ false → IsAlone among regions p event → IsHeld among regions wanted spots (next p event) →
+    IsHeld among regions wanted spots p
+alone-held among regions wanted spots p event holds alone held = (
+  suc held.0,
+  (
+    holds,
+    λ k less may did. subst (λ e. HeldBy among regions wanted spots held.0 (next p e)) (sym (alone k less may)) held.1,
+  ),
+)
+
+-- It is held too if that one does nothing.
+pub over-held : (among : List Event) (regions : List Region) (wanted : Wanted) (spots : List Place) (p : Place) (event : Event) →
+    fails_at wanted p.board p.left ≡ false → IsAlone among regions p event → does p.board event ≡ false →
+    IsHeld among regions wanted spots p
+over-held among regions wanted spots p event holds alone none = (
+  suc zero,
+  (
+    holds,
+    λ k less may did. absurd (false≢true (sym none ∙ subst (λ e. does p.board e ≡ true) (alone k less may) did)),
+  ),
+)
+
+pub walked-none : (among : List Event) (regions : List Region) (wanted : Wanted) (p : Place) (event : Event) →
+    HasWalked among regions wanted p event p 0
+walked-none among regions wanted p event = record { board = refl; held = λ spots held. held; few = omega arith }
+
+pub walked-more : (among : List Event) (regions : List Region) (wanted : Wanted) (from p : Place) (event : Event) (count : ℕ)
+    (b : BoardState) (left : Bounds) (last : Option ℕ) → HasWalked among regions wanted from event p count → count < 10000 →
+    fails_at wanted p.board p.left ≡ false → IsAlone among regions p event → b ≡ (happens p.board event).board →
+    left ≡ spent p.left p.last event → last ≡ stepper b p.last event →
+    HasWalked among regions wanted from event (record { board = b; left = left; last = last }) (count + 1)
+walked-more among regions wanted from p event count b left last walked room holds alone board rest who = record {
+  board =
+      board ∙ ap (λ z. (happens z event).board) walked.board ∙ after-more from.board event count
+      ∙ ap (λ n. after from.board (replicate n event)) (plus-one count);
+  held = λ spots held.
+      walked.held spots (alone-held among regions wanted spots p event holds alone
+      (subst (IsHeld among regions wanted spots) (sym (next-is p event b left last board rest who)) held));
+  few = omega (arith, room);
+}
+
+-- What was walked to is known.
+on-ok : {E A : Type 0} (result : Result A E) (P Q : Type 0) → (P → Q) → OnOk result P → OnOk result Q
+on-ok (Ok done) P Q f it = f it
+on-ok (Err fault) P Q f it = tt
+
+pub walked-held : {E A : Type 0} (among : List Event) (regions : List Region) (wanted : Wanted) (spots : List Place) (p : Place)
+    (event : Event) (first b : BoardState) (rest margin : Margin) (count : ℕ) (result : Result A E) → first ≡ (happens p.board event).board →
+    rest.left ≡ spent p.left p.last event → rest.last ≡ stepper first p.last event →
+    HasWalked among regions wanted (spot_of first rest) event (spot_of b margin) count → OnOk result (IsKnown spots (spot_of b margin)) →
+    OnOk result (IsHeld among regions wanted spots (next p event))
+walked-held among regions wanted spots p event first b rest margin count result board left last walked known =
+    on-ok result (IsKnown spots (spot_of b margin)) (IsHeld among regions wanted spots (next p event))
+    (λ it. subst (IsHeld among regions wanted spots) (sym (next-is p event first rest.left rest.last board left last))
+    (walked.held spots (known-held among regions wanted spots (spot_of b margin) it))) known
+
+-- Nothing comes behind the next place.
+pub over-next : (among : List Event) (regions : List Region) (wanted : Wanted) (p : Place) (event : Event) (first : BoardState)
+    (rest : Margin) → first ≡ (happens p.board event).board → rest.left ≡ spent p.left p.last event →
+    rest.last ≡ stepper first p.last event → ((spots : List Place) → IsHeld among regions wanted spots (spot_of first rest)) →
+    (spots : List Place) → IsHeld among regions wanted spots (next p event)
+over-next among regions wanted p event first rest board left last over spots =
+    subst (IsHeld among regions wanted spots) (sym (next-is p event first rest.left rest.last board left last)) (over spots)
+
+pub walked-leads : (among : List Event) (regions : List Region) (wanted : Wanted) (b first there : BoardState) (event : Event)
+    (rest margin : Margin) (count : ℕ) → first ≡ (happens b event).board →
+    HasWalked among regions wanted (spot_of first rest) event (spot_of there margin) count →
+    there ≡ after b (replicate (count + 1) event)
+walked-leads among regions wanted b first there event rest margin count is walked =
+    walked.board ∙ ap (λ z. after z (replicate count event)) is ∙ ap (λ n. after b (replicate n event)) (plus-one count)
+
+-- One event more was looked at.
+pub alone-next : (among : List Event) (regions : List Region) (p : Place) (event other : Event) (i : ℕ) →
+    ((k : ℕ) → k < i → may_go regions p (event_at among k) ≡ true → event_at among k ≡ event) →
+    (may_go regions p other ≡ true → other ≡ event) → other ≡ get_or among i other → i < length among →
+    (k : ℕ) → k < i + 1 → may_go regions p (event_at among k) ≡ true → event_at among k ≡ event
+alone-next among regions p event other i before here is within k less may =
+    elim (less-or-same k i less) [
+      | inl below ↦ before k below may
+      | inr same ↦
+          let there : event_at among k ≡ other = ap (event_at among) same ∙ sym (is ∙ get_or_default among i other Tick within) in
+          there ∙ here (subst (λ e. may_go regions p e ≡ true) there may)
+    ]
