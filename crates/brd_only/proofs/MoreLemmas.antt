@@ -82,7 +82,7 @@ same-some : (p q : Place) → Some p ≡ Some q → p ≡ q
 same-some p q is = cc
 
 pub less-or-same : (n m : ℕ) → n < m + 1 → (n < m) ⊎ (n ≡ m)
-pub less-or-same n m less = grind (arith, less)
+less-or-same n m less = grind (arith, less)
 
 pub done-next : (among : List Event) (regions : List Region) (wanted : Wanted) (old new : List Place) (at : ℕ) (spot : Place) →
     AreDone among regions wanted old at → IsMore old new → slice_get old at ≡ Some spot → IsDone among regions wanted new spot →

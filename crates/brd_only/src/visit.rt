@@ -102,11 +102,12 @@ fn try_all(
         (HaveGone among.now regions.now wanted.now spots.new (spot_of board.now margin) (length among.now)) }
 {
     for event in among {
-        if may_go(board, margin, *event, regions) {
-            try_event(
-                spots, at, board, margin, words, among, regions, wanted, *event, last,
-            )?;
+        if !may_go(board, margin, *event, regions) {
+            continue;
         }
+        try_event(
+            spots, at, board, margin, words, among, regions, wanted, *event, last,
+        )?;
     }
     Ok(())
 }
@@ -179,9 +180,11 @@ fn go_by(
         left: margin.left.spent(margin.last, event),
         last: stepper(board, margin.last, event),
     };
-    let Some(walk) = go_on(board, rest, event, among, regions, wanted)? else {
-        return Ok(());
-    };
-    let mark = spots.mark_of(board, walk.margin, memory_of(board, words));
-    spots.note(at, event, walk.count + 1, board, walk.margin, mark)
+    match go_on(board, rest, event, among, regions, wanted)? {
+        None => Ok(()),
+        Some(walk) => {
+            let mark = spots.mark_of(board, walk.margin, memory_of(board, words));
+            spots.note(at, event, walk.count + 1, board, walk.margin, mark)
+        }
+    }
 }

@@ -1,6 +1,6 @@
 //! Walks: the same event again and again, where no other one may come.
 
-ghost use Rattle.std.specs.Prelude.{◌≡◌, true, IfOk};
+ghost use Rattle.std.specs.Prelude.{◌≡◌, true, false, IfOk};
 ghost use Rattle.brd_only.specs.Finding.{IsAlone, WalkedSo, may_go};
 ghost use Rattle.brd_only.specs.Spots.{spot_of};
 
@@ -64,11 +64,15 @@ pub(crate) fn go_on(
     }))
 }
 
-/// Whether a walk stops at a place: another event may come there, or nobody executes who has stepped last.
+/// Whether a walk stops at a place: another event may come there, or the same one may not, or nobody executes who has
+/// stepped last.
 fn stops(board: &Board, here: Margin, event: Event, among: &[Event], regions: &[Region]) -> bool
     ensures { result ≡ false → IsAlone among.now regions.now (spot_of board.now here) event }
 {
-    board.is_off() || here.last.is_none() || !is_alone(board, here, event, among, regions)
+    board.is_off()
+        || here.last.is_none()
+        || !may_go(board, here, event, regions)
+        || !is_alone(board, here, event, among, regions)
 }
 
 /// Whether no other event may come at a place than this one.

@@ -195,12 +195,15 @@ fn within_regions<W: Watch>(
         Err(halt) => return Err(stopped(halt)),
     };
     match found {
-        Inside::Found(events) => Ok(Searched {
-            schedule: Some(events),
-            bounds,
-            counts: UNTOLD,
-            lazily: true,
-        }),
+        Inside::Found(events) => {
+            let schedule = Some(events);
+            Ok(Searched {
+                schedule,
+                bounds,
+                counts: UNTOLD,
+                lazily: true,
+            })
+        }
         Inside::NoneFails(counts) => Ok(Searched {
             schedule: None,
             bounds,

@@ -1,8 +1,6 @@
 //! Searches that preempt in regions alone.
 
-use super::sources::{
-    LOOP, LOST_UPDATE, PETERSON, PETERSON_SWAPPED, REPAIRED, SAMPLED, STARTED, TWO,
-};
+use super::sources::{LOST_UPDATE, PETERSON, PETERSON_SWAPPED, REPAIRED, SAMPLED, STARTED, TWO};
 use brd_base::{List, NoMemory};
 use brd_board::{Board, Event};
 use brd_explore::{Bounds, Failure, Nobody, Wanted, did_nothing, stepper};
@@ -130,7 +128,7 @@ const CASES: &[Case] = &[
 ];
 
 /// Programs with two tasks, all of whose schedules are tried one by one.
-const SOURCES: &[&str] = &[LOST_UPDATE, REPAIRED, PETERSON, PETERSON_SWAPPED, LOOP];
+const SOURCES: &[&str] = &[LOST_UPDATE, REPAIRED, PETERSON, PETERSON_SWAPPED];
 
 /// The bounds of a case.
 fn bounds_of(bounds: (u32, u32, u32)) -> Bounds {
@@ -281,14 +279,14 @@ fn agrees_everywhere(alloc: Global, source: &str) -> bool {
     let Some(wanted) = wanted_of(alloc, COUNT) else {
         return false;
     };
-    for place in 0..12u32 {
-        let from = 0x8000_0010 + place * 4;
+    for place in 0..8u32 {
+        let from = 0x8000_0010 + place * 8;
         let upto = from + 4 + place % 3 * 4;
-        if !agrees(alloc, &board, 16, Region { from, upto }, &wanted) {
+        if !agrees(alloc, &board, 14, Region { from, upto }, &wanted) {
             return false;
         }
     }
-    agrees(alloc, &board, 16, ALL, &wanted)
+    agrees(alloc, &board, 14, ALL, &wanted)
 }
 
 /// The first program of which a search comes to something else.

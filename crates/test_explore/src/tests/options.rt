@@ -118,7 +118,7 @@ const FAULTS: &[(SearchOptions<'static>, SearchFault)] = &[
     (
         SearchOptions {
             lazy: 1,
-            threads: 2,
+            remember: 1,
             ..OPTIONS
         },
         SearchFault::Lazy,

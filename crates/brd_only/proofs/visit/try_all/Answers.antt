@@ -10,13 +10,13 @@ pub try_event-requires : goal.try_event-requires
 try_event-requires c =
     spot-more c.args.spots.now c.loop-event.spots c.args.at (spot_of c.args.board.now c.args.margin) c.loop-event.invariant.more c.requires
 
-pub loop-event-preserved-else-may_go : goal.loop-event-preserved-else-may_go
-loop-event-preserved-else-may_go c = record {
+pub loop-event-preserved-then-not-may_go : goal.loop-event-preserved-then-not-may_go
+loop-event-preserved-then-not-may_go c = record {
   more = c.loop-event.invariant.more;
   gone =
       gone-next c.args.among.now c.args.regions.now c.args.wanted.now c.loop-event.spots c.loop-event.spots
       (spot_of c.args.board.now c.args.margin) c.loop-event.event-index _ (more-same c.loop-event.spots) c.loop-event.invariant.gone
-      (λ may did. absurd (false≢true (sym c.if-may_go.false ∙ c.may_go.ensures ∙ may)))
+      (λ may did. absurd (false≢true (sym c.if-not-may_go.true ∙ c.may_go.ensures ∙ may)))
       (get_or_default c.args.among.now c.loop-event.event-index (Step 0) _ c.loop-event-test.true) c.loop-event-test.true;
 }
 

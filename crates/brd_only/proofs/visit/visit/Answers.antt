@@ -8,8 +8,8 @@ pub try_all-requires : goal.try_all-requires
 try_all-requires c =
     here-is c.args.spots.now c.args.at c.put.new.board c.in-Some.margin c.requires c.in_ok-put.ensures c.in-Some.ensures
 
-pub returns-in_ok-try_all-clause-so : goal.returns-in_ok-try_all-clause-so
-returns-in_ok-try_all-clause-so c = λ p is.
+pub returns-clause-so : goal.returns-clause-so
+returns-clause-so c = λ p is.
     subst (IsDone c.args.among.now c.args.regions.now c.args.wanted.now c.try_all.new.spots)
     (ap (λ b. spot_of b c.in-Some.margin) (c.in_ok-put.ensures p is) ∙ c.in-Some.ensures p is)
     (record { holds = sym c.in_ok-fails_at.ensures ∙ c.if-branch.false; gone = c.in_ok-try_all.ensures.gone })

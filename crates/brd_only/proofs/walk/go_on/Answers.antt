@@ -25,3 +25,9 @@ returns-then-did_nothing c = λ spots.
     (sym c.in_ok-fails_at.ensures ∙ c.if-branch.false) (c.stops.ensures c.if-stops.false)
     (done-nothing c.loop-count.board c.loop-count.board c.args.event (record { board = c.event_apart.new.self; report = c.event_apart.result })
     c.did_nothing.result c.event_apart.ensures refl c.did_nothing.ensures ∙ ap not c.if-did_nothing.true))
+
+pub returns : goal.returns
+returns c =
+    let all : c.loop-count.count ≡ 10000 = omega (arith, c.loop-count-test.false, c.loop-count.invariant.few) in
+    subst (HasWalked c.args.among.now c.args.regions.now c.args.wanted.now (spot_of c.args.board.now c.args.margin) c.args.event
+    (spot_of c.loop-count.board c.loop-count.here)) all c.loop-count.invariant

@@ -5,4 +5,4 @@ use Rattle.brd_only.proofs.walk.go_on.Given as goal
 
 abbrev pub invariant-loop-count : goal.invariant-loop-count
 invariant-loop-count l =
-    HasWalked l.among l.regions l.wanted (spot_of l.fn.board l.margin) l.event (spot_of l.board l.here) l.count
+    HasWalked l.among l.regions l.wanted (spot_of l.fn.board l.fn.margin) l.event (spot_of l.board l.here) l.count
