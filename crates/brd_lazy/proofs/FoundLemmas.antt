@@ -1,8 +1,12 @@
 -- What visits have found, added to the places.
-use Rattle.std.proofs.Common.{◌≡◌, ℕ, zero, suc, ◌+◌, ◌<◌, ◌≤◌, ◌⊎◌, inl, inr, true, false, List, [], ◌∷◌, ◌++◌, length, refl, sym, ap, subst, ◌∙◌, arith}
+use Rattle.std.proofs.Common.{◌≡◌, ℕ, zero, suc, ◌+◌, ◌<◌, ◌≤◌, ◌⊎◌, inl, inr, true, false, List, [], ◌∷◌, ◌++◌, length, refl, sym, ap, subst, ◌∙◌, arith, length-append}
 use Rattle.std.specs.Prelude.{replicate, slice_get, Option, Some, None, Bool, Result, Ok, Err, OnOk, IfOk}
 use Rattle.std.proofs.lemmas.List.{append_assoc, append-nil}
 use Rattle.std.proofs.lemmas.Option.{slice_get_within}
+use Rattle.std.proofs.lemmas.List.Elements.{All-head, All-tail, All-append}
+use Rattle.std.specs.List.{All}
+use Rattle.std.proofs.Common.{Vec, Global}
+use Rattle.brd_base.specs.declared.no_memory.NoMemory.{NoMemory}
 use Rattle.brd_link.specs.LinkSet.{IsLinkSet}
 use Rattle.brd_board.specs.declared.event.Event.{Event}
 use Rattle.brd_board.specs.declared.event.Event.TheVariants.{Step, Tick, Raise}
@@ -14,6 +18,7 @@ use Rattle.brd_frames.specs.Lagging.{Sharing}
 use Rattle.brd_lazy.specs.declared.finds.Find.{Find}
 use Rattle.brd_lazy.specs.declared.spots.Margin.{Margin}
 use Rattle.brd_lazy.specs.declared.twins.Twin.{Twin}
+use Rattle.brd_lazy.specs.declared.part.Part.{Part}
 use Rattle.brd_lazy.specs.declared.visit.Tried.{Tried}
 use Rattle.brd_lazy.specs.declared.visit.Tried.TheVariants as tried
 use Rattle.brd_lazy.specs.declared.round.Round.{Round}
@@ -79,7 +84,7 @@ rich-then a b c one two = record {
   owed = one.owed ∙ two.owed;
 }
 
-pub All-known : List Place → List Place → Type 0
+abbrev pub All-known : List Place → List Place → Type 0
 All-known seen spots = (q : Place) → IsIn seen q → IsKnown spots q
 
 known-through : (seen spots : List Place) (p : Place) → All-known seen spots → IsKnown seen p → IsKnown spots p
@@ -156,7 +161,7 @@ less-or-same n m less = grind (arith, less)
 same-find : (a b : Find) → Some a ≡ Some b → a ≡ b
 same-find a b is = cc
 
-pub settled-next : {E : Type 0} (early : List Place) (finds : List Find) (at : ℕ) (find : Find) (old new : List Place) → IsMore early old →
+pub settled-next : (early : List Place) (finds : List Find) (at : ℕ) (find : Find) (old new : List Place) → IsMore early old →
     IsMore old new → slice_get finds at ≡ Some find → AreSettled early finds at old →
     ((p : Place) → slice_get old find.from ≡ Some p → IsKnown new (led_to find p)) → AreSettled early finds (at + 1) new
 settled-next early finds at find old new begun more here settled known k less other p is there =
@@ -172,7 +177,7 @@ settled-next early finds at find old new begun more here settled known k less ot
 pub gone-settled : (by : Sharing) (among : List Event) (wanted : Wanted) (early : List Place) (finds : List Find) (spots : List Place)
     (from upto : ℕ) (came : Round) → IsMore early spots → AreSettled early finds (length finds) spots →
     GoneSo by among wanted early (with_finds early finds) from upto came → GoneSo by among wanted early spots from upto came
-gone-settled by among wanted early finds spots from upto round.Holds more settled gone at low less p is =
+gone-settled by among wanted early finds spots from upto round.Holds more settled gone = λ at low less p is.
     done-through by among wanted (with_finds early finds) spots p (all-known early finds spots more settled) (gone at low less p is)
 gone-settled by among wanted early finds spots from upto (round.Fails at) more settled gone = tt
 gone-settled by among wanted early finds spots from upto (round.Strays at cpu count) more settled gone = tt
@@ -291,7 +296,7 @@ second-known spots xs ys q (at, is) = elim (in-either spots (found_of spots ys) 
 gone-second : (by : Sharing) (among : List Event) (wanted : Wanted) (spots : List Place) (xs ys : List Find) (from upto : ℕ) (came : Round) →
     GoneSo by among wanted spots (with_finds spots ys) from upto came →
     GoneSo by among wanted spots (with_finds spots (xs ++ ys)) from upto came
-gone-second by among wanted spots xs ys from upto round.Holds gone at low less p is =
+gone-second by among wanted spots xs ys from upto round.Holds gone = λ at low less p is.
     done-through by among wanted (with_finds spots ys) (with_finds spots (xs ++ ys)) p (second-known spots xs ys) (gone at low less p is)
 gone-second by among wanted spots xs ys from upto (round.Fails at) gone = tt
 gone-second by among wanted spots xs ys from upto (round.Strays at cpu count) gone = tt
@@ -322,3 +327,38 @@ part-follows by among wanted spots xs ys both from middle also upto came more ho
     (holds-gone by among wanted spots (with_finds spots xs) from middle came holds one))
     (gone-second by among wanted spots xs ys middle upto more
     (subst (λ n. GoneSo by among wanted spots (with_finds spots ys) n upto more) same other)))
+
+-- Parts and rows one after the other.
+
+abbrev IsPart : Sharing → List Event → Wanted → List Place → Result Part NoMemory → Type 0
+IsPart by among wanted spots part = IfOk part (PartSo by among wanted spots)
+
+pub part-next : (by : Sharing) (among : List Event) (wanted : Wanted) (spots : List Place) (items rest : List (Result Part NoMemory))
+    (found : Result Part NoMemory) (part one new : Part) → items ≡ found ∷ rest → found ≡ Ok part →
+    All (IsPart by among wanted spots) items → PartSo by among wanted spots one →
+    (PartSo by among wanted spots one → PartSo by among wanted spots part → PartSo by among wanted spots new) →
+    All (IsPart by among wanted spots) rest × PartSo by among wanted spots new
+part-next by among wanted spots items rest found part one new is ok each so more =
+    let whole = subst (All (IsPart by among wanted spots)) is each in
+    let here = subst (IsPart by among wanted spots) ok (All-head (IsPart by among wanted spots) found rest whole) in (
+      All-tail (IsPart by among wanted spots) found rest whole,
+      more so here,
+    )
+
+abbrev IsRow : List Place → List Find → Result (Vec Twin Global) NoMemory → Type 0
+IsRow spots finds row = IfOk row (λ (twins : Vec Twin Global). All (IsTwin spots finds) twins.items)
+
+pub row-next : (spots : List Place) (finds : List Find) (items rest : List (Result (Vec Twin Global) NoMemory))
+    (found : Result (Vec Twin Global) NoMemory) (row : Vec Twin Global) (twins new : List Twin) → items ≡ found ∷ rest → found ≡ Ok row →
+    new ≡ twins ++ row.items → All (IsRow spots finds) items → All (IsTwin spots finds) twins →
+    All (IsRow spots finds) rest × All (IsTwin spots finds) new
+row-next spots finds items rest found row twins new is ok more each so =
+    let whole = subst (All (IsRow spots finds)) is each in
+    let here = subst (IsRow spots finds) ok (All-head (IsRow spots finds) found rest whole) in (
+      All-tail (IsRow spots finds) found rest whole,
+      subst (All (IsTwin spots finds)) (sym more) (All-append (IsTwin spots finds) twins row.items so here),
+    )
+
+-- There are no fewer than there were.
+pub more-long : (old new : List Place) → IsMore old new → length old ≤ length new
+more-long old new more = omega (arith, ap (λ (xs : List Place). length xs) more.1, length-append old more.0)

@@ -1,6 +1,6 @@
 //! What visits have come to is added to the places.
 
-ghost use Rattle.std.specs.Prelude.{◌≡◌, length, slice_get, true, IfOk, OnOk, Some, List as ListOf};
+ghost use Rattle.std.specs.Prelude.{◌≡◌, ◌+◌, ◌<◌, length, slice_get, true, IfOk, OnOk, Some, List as ListOf};
 ghost use Rattle.std.specs.List.{All};
 ghost use Rattle.brd_board.specs.declared.event.Event.{Event as EventOf};
 ghost use Rattle.brd_explore.specs.Schedules.{Place as PlaceOf};
@@ -61,13 +61,33 @@ fn settle_all(spots: &mut Spots, finds: &[Find], twins: &[Twin]) -> Result<(), N
 {
     let mut next = 0;
     for at in 0..finds.len() {
-        if next < twins.len() && twins[next].at == at {
-            next += 1;
-        } else {
-            add_find(spots, finds[at])?;
-        }
+        next = settle_next(spots, finds, twins, at, next)?;
     }
     Ok(())
+}
+
+/// Adds the find of an index, unless it is that of the next twin. Answers which twin is the next one then.
+fn settle_next(
+    spots: &mut Spots,
+    finds: &[Find],
+    twins: &[Twin],
+    at: usize,
+    next: usize,
+) -> Result<usize, NoMemory>
+    requires { at < length finds.now }
+    ensures more { IsMore spots.old spots.new }
+    ensures known { (early : ListOf PlaceOf) → IsMore early spots.old → All (IsTwin early finds.now) twins.now →
+        AreSettled early finds.now at spots.old → OnOk result (AreSettled early finds.now (at + 1) spots.new) }
+{
+    if next >= twins.len() {
+        add_find(spots, finds[at])?;
+        return Ok(next);
+    }
+    if twins[next].at == at {
+        return Ok(next.saturating_add(1));
+    }
+    add_find(spots, finds[at])?;
+    Ok(next)
 }
 
 /// Adds finds that were made when there were so many places, each unless it is known by now.

@@ -6,8 +6,8 @@ use Rattle.brd_lazy.proofs.FindLemmas.{more-same, more-then}
 use Rattle.brd_lazy.proofs.FoundLemmas.{gone-next, gone-none}
 use Rattle.brd_lazy.proofs.part.visit_row.Goals as goal
 
-pub loop-at-begins : goal.loop-at-begins
-loop-at-begins c = record {
+pub loop-at-init : goal.loop-at-init
+loop-at-init c = record {
   more = more-same (with_finds c.args.spots.now c.args.finds.now.items);
   gone = gone-none (sharing_for c.args.sharing.now c.args.wanted.now) c.args.among.now c.args.wanted.now c.args.spots.now
       (with_finds c.args.spots.now c.args.finds.now.items) c.args.from;

@@ -4,12 +4,12 @@ use Rattle.brd_reach.specs.Rounds.{sharing_for}
 use Rattle.brd_lazy.specs.Finding.{AreDone, IsMore}
 use Rattle.brd_lazy.proofs.round.visit_all.Given as goal
 
-abbrev pub invariant-loop : goal.invariant-loop
-invariant-loop g l = record {
+abbrev pub invariant-loop-at : goal.invariant-loop-at
+invariant-loop-at g l = record {
   more : IsMore l.fn.spots l.spots;
   done : AreDone (sharing_for l.sharing l.wanted) l.among l.wanted l.spots l.at;
   within : l.at ≤ length l.spots;
 }
 
-abbrev pub decreases-loop : goal.decreases-loop
-decreases-loop g l = l.most - l.at
+abbrev pub decreases-loop-at : goal.decreases-loop-at
+decreases-loop-at g l = l.most - l.at
