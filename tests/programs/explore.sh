@@ -225,7 +225,7 @@ while IFS='|' read -r source config words told shows; do
             "$wrong$(cmp "$work/lazy" "$work/out" || echo "; with --lazy it says '$(head -c 300 "$work/out")'")"
     fi
 done < $examples/cases
-# Without the memory for that schedules are searched one by one: more than 1,024 places aren't kept in a MiB.
+# Without the memory for that schedules are searched one by one.
 printf '%s\n' 'main: lui $t0, %hi(count)' 'addiu $t1, $0, 1500' 'again: sw $t1, %lo(count)($t0)' \
     'addiu $t1, $t1, -1' 'bne $t1, $0, again' nop 'addiu $v0, $0, 3' syscall '.align 4' 'count: .word 0' \
     > "$work/stores.s"
@@ -236,6 +236,15 @@ wrong=$(is_lazily_none "$(bounds --events 20000 --preemptions 0)" $?)
 explores "${wide[@]}" --memory 1
 verdict "explore: more places than fit into a MiB" \
     "$wrong$(grep -q '^none of 2 schedules fails: ' "$work/out" || head -c 300 "$work/out")"
+# Places take no more memory than is said: without a bound these would be above 20 MiB. (Python itself takes less.)
+what="explore: no more memory than --memory says"
+if have python3 "$what"; then
+    taken=$(python3 -c 'import resource, subprocess, sys
+subprocess.run(sys.argv[1:], stdout=subprocess.DEVNULL, stderr=subprocess.DEVNULL)
+print(resource.getrusage(resource.RUSAGE_CHILDREN).ru_maxrss)' "$board" explore "$work/stores" $examples/lost_update.cfg \
+        --exception --events 600 --memory 16 --threads 1 --time 5)
+    verdict "$what" "$([ "$taken" -le $((24 * 1024)) ] || echo "$taken KiB")"
+fi
 how=(--memory 0)
 
 # ---- Without bounds: a program that is right within them is right, and what is found within them is found.

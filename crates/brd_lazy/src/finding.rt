@@ -41,8 +41,8 @@ pub enum Lazily {
 const MOST_ROUNDS: u32 = 10_000;
 
 /// Searches the schedules of a board within bounds, of which each event is one of these, for one that fails: by the
-/// lazy ones. It goes through so many places at most. Who watches is told through how many it has gone. So many threads
-/// of the host visit places, if there are many; what is found doesn't depend on that.
+/// lazy ones. It goes through so many places at most, which take so many bytes at most, about. Who watches is told through
+/// how many it has gone. So many threads of the host visit places, if there are many; what is found doesn't depend on that.
 pub fn find_lazily<T: Threads + Sync, W: Watch>(
     rt: &T,
     alloc: Global,
@@ -52,6 +52,7 @@ pub fn find_lazily<T: Threads + Sync, W: Watch>(
     among: &[Event],
     wanted: &Wanted,
     most: usize,
+    room: usize,
     watch: &mut W,
 ) -> Result<Lazily, Halt>
     ensures is { IfOk result (FoundSo wanted.now among.now (start board.now bounds)) }
@@ -78,6 +79,7 @@ pub fn find_lazily<T: Threads + Sync, W: Watch>(
             among,
             wanted,
             most,
+            room,
             watch,
         )? {
             Round::Holds => return Ok(Lazily::NoneFails(how_far(&spots, stops))),

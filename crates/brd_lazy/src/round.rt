@@ -41,8 +41,9 @@ const FEW: usize = 32;
 /// How many each thread visits at most before what they came to is added (own choice).
 const MANY: usize = 256;
 
-/// Visits places, and those to which events lead from them, until all have been visited or one fails; at most so many.
-/// So many threads visit them, if there are many; what they come to doesn't depend on that.
+/// Visits places, and those to which events lead from them, until all have been visited or one fails; at most so many,
+/// and as long as they take no more than so many bytes. So many threads visit them, if there are many; what they come to
+/// doesn't depend on that.
 pub(crate) fn visit_all<T: Threads + Sync, W: Watch>(
     rt: &T,
     alloc: Global,
@@ -54,6 +55,7 @@ pub(crate) fn visit_all<T: Threads + Sync, W: Watch>(
     among: &[Event],
     wanted: &Wanted,
     most: usize,
+    room: usize,
     watch: &mut W,
 ) -> Result<Round, Halt>
     ensures more { IsMore spots.old spots.new }
@@ -63,7 +65,7 @@ pub(crate) fn visit_all<T: Threads + Sync, W: Watch>(
     let mut seats = Seats::new(spots)?;
     let mut at = 0;
     while at < spots.len() {
-        if at >= most {
+        if at >= most || spots.weight() > room {
             return Ok(Round::Unknown(Unknown::Places));
         }
         if !watch.tried(at as u64) {

@@ -87,6 +87,11 @@ impl Spots {
         self.boards.board(i)
     }
 
+    /// How many bytes they take, about.
+    pub fn weight(&self) -> usize {
+        self.boards.weight()
+    }
+
     /// Makes a board that of the place of an index.
     pub fn put(&self, i: usize, board: &mut Board) -> Result<(), NoMemory>
         ensures { (p : PlaceOf) → slice_get self.now i ≡ Some p → OnOk result (board.new ≡ p.board) }

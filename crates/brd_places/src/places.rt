@@ -23,6 +23,12 @@ const NOTHING: Left = Left {
     owed: 0,
 };
 
+/// How many bytes a place takes at most, besides a board that is kept whole: in tables that may be half empty.
+const PLACE: usize = 256;
+
+/// How many bytes a board that is kept whole takes, about: its kernel's tables, and a few pages.
+const WHOLE: usize = 65_536;
+
 /// The places through which a search goes, in the order in which it came to them.
 pub struct Places {
     start: Board,
@@ -87,6 +93,12 @@ impl Places {
         ensures { result ≡ length self.now }
     {
         self.entries.len()
+    }
+
+    /// How many bytes they take, about: in what lies in memory for each, and in the boards that are kept whole.
+    pub fn weight(&self) -> usize {
+        let each = self.entries.len().saturating_mul(PLACE);
+        each.saturating_add(self.kept.len().saturating_mul(WHOLE))
     }
 
     /// What is left at the place of an index.

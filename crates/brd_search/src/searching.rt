@@ -240,11 +240,10 @@ fn within_whole<T: Threads + Sync, W: Watch + Send>(
     ensures bounds { IfOk result (λ found. found.bounds ≡ bounds) }
     ensures stops { IfErr result (StopsSo plan.now board.now W.may_stop) }
 {
-    let most = most_places(plan, lazily);
-    if most == 0 {
+    let Some(room) = room_for(plan, lazily) else {
         return within_all(rt, alloc, board, plan, bounds, watch);
-    }
-    match within_lazily(rt, alloc, board, plan, most, bounds, watch) {
+    };
+    match within_lazily(rt, alloc, board, plan, room, bounds, watch) {
         Ok(Ok(searched)) => Ok(searched),
         Ok(Err(why)) if plan.lazy > 0 => Err(NoAnswer::Unknown(why)),
         Ok(Err(_)) => within_all(rt, alloc, board, plan, bounds, watch),
@@ -253,19 +252,33 @@ fn within_whole<T: Threads + Sync, W: Watch + Send>(
     }
 }
 
-/// How many places of a search by lazy schedules a MiB holds, at least (own choice): they have 140 bytes to 1 KiB each.
+/// How many places of a search that keeps to regions a MiB holds, about (own choice).
 const PLACES: usize = 1_024;
 
-/// Through how many places a search by the lazy schedules alone goes at most, if it may be made; 0: there is none.
-fn most_places(plan: &Plan, lazily: bool) -> usize {
+/// The room for the places of a search by the lazy schedules alone.
+#[derive(Clone, Copy)]
+struct Room {
+    /// How many places.
+    most: usize,
+    /// How many bytes.
+    bytes: usize,
+}
+
+/// The room for such a search, if it may be made.
+fn room_for(plan: &Plan, lazily: bool) -> Option<Room> {
     if plan.lazy > 0 {
-        return plan.lazy as usize;
+        return Some(Room {
+            most: plan.lazy as usize,
+            bytes: usize::MAX,
+        });
     }
-    if lazily {
-        plan.memory as usize * PLACES
-    } else {
-        0
+    if !lazily || plan.memory == 0 {
+        return None;
     }
+    Some(Room {
+        most: usize::MAX,
+        bytes: plan.memory as usize * MEBIBYTE,
+    })
 }
 
 /// Searches them one by one.
@@ -305,13 +318,13 @@ fn within_all<T: Threads + Sync, W: Watch + Send>(
     }
 }
 
-/// Searches the lazy ones alone, through so many places at most: what that came to, or why it isn't known.
+/// Searches the lazy ones alone, as far as there is room for places: what that came to, or why it isn't known.
 fn within_lazily<T: Threads + Sync, W: Watch>(
     rt: &T,
     alloc: Global,
     board: &Board,
     plan: &Plan,
-    most: usize,
+    room: Room,
     bounds: Bounds,
     watch: &mut W,
 ) -> Result<Result<Searched, Unknown>, Halt>
@@ -328,7 +341,8 @@ fn within_lazily<T: Threads + Sync, W: Watch>(
         bounds,
         plan.among.as_slice(),
         &plan.wanted,
-        most,
+        room.most,
+        room.bytes,
         watch,
     )?;
     match found {

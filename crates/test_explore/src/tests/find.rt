@@ -401,6 +401,7 @@ fn lazy_search_of<T: Threads + Sync>(
         case.among,
         &wanted,
         100_000,
+        usize::MAX,
         &mut Nobody,
     )
     .ok()

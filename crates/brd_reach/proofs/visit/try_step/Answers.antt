@@ -14,8 +14,8 @@ returns-in-Stays-clause-so c = λ among at set.
     leads-tried (sharing_for c.args.sharing.now c.args.wanted.now) among c.args.places.now c.args.left c.args.board.now c.args.cpu c.args.board.now
     (omega (arith, c.if-cpu-eq0.false)) (omega (arith, c.if-cpu-gt8.false)) (led set) (c.args.at, at)
 
-pub returns-in-Leads-clause-so : goal.returns-in-Leads-clause-so
-returns-in-Leads-clause-so c = λ among at set.
+pub returns-in_ok-note-in-Leads-clause-so : goal.returns-in_ok-note-in-Leads-clause-so
+returns-in_ok-note-in-Leads-clause-so c = λ among at set.
     let went = subst (λ (b : BoardState). IsLinkSet b.links → (c.go.new.board ≡ after b (replicate c.in-Leads.count (Step c.args.cpu)))
     × LeadsTo (sharing_for c.args.sharing.now c.args.wanted.now) b c.args.cpu c.go.new.board) c.in_ok-copy_over.ensures
     (λ those. subst (WentBy (sharing_for c.args.sharing.now c.args.wanted.now) c.copy_over.new.board c.args.cpu c.go.new.board) c.in-Leads.is (c.in_ok-go.ensures those)) set in
