@@ -5,7 +5,7 @@ use Rattle.std.proofs.lemmas.Bool.{cases_Bool, false≢true}
 use Rattle.std.proofs.lemmas.Option.{slice_get_within}
 use Rattle.brd_board.specs.declared.event.Event.{Event}
 use Rattle.brd_explore.specs.declared.wanted.Wanted.{Wanted}
-use Rattle.brd_explore.specs.Schedules.{Place, IsRicher, does, is_left, next, place_after, event_at, IsAmong, IsWithin}
+use Rattle.brd_explore.specs.Schedules.{Place, IsRicher, does, next, place_after, event_at, IsAmong, IsWithin}
 use Rattle.brd_explore.specs.Searching.{FailsAt, Fails}
 use Rattle.brd_only.specs.declared.region.Region.{Region}
 use Rattle.brd_only.specs.Only.{KeepsInside, NoneFailsInside}

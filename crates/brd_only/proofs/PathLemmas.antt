@@ -1,6 +1,6 @@
 -- Lists of events that are followed event by event.
-use Rattle.std.proofs.Common.{◌≡◌, ℕ, suc, ◌+◌, ◌<◌, ◌≤◌, inl, inr, Bool, true, false, List, [], ◌∷◌, ◌++◌, length, refl, sym, ap, subst, ◌∙◌, arith}
-use Rattle.std.specs.Prelude.{not, nat_lt, ◌&&◌, if◌then◌else◌, take, get_or, Option}
+use Rattle.std.proofs.Common.{◌≡◌, ℕ, suc, ◌+◌, ◌<◌, ◌≤◌, inl, inr, Bool, true, List, [], ◌∷◌, ◌++◌, length, refl, sym, ap, subst, ◌∙◌, arith}
+use Rattle.std.specs.Prelude.{not, nat_lt, if◌then◌else◌, take, get_or, Option}
 use Rattle.std.proofs.lemmas.Bool.{cases_Bool, and_parts, ltb-true}
 use Rattle.std.proofs.lemmas.List.{take_more, take_all}
 use Rattle.brd_board.specs.declared.event.Event.{Event}
@@ -11,7 +11,7 @@ use Rattle.brd_explore.specs.declared.bounds.Bounds.{Bounds}
 use Rattle.brd_explore.specs.declared.wanted.Wanted.{Wanted}
 use Rattle.brd_explore.specs.Schedules.{Place, does, stepper, affords, affords_one, spent, is_left, next, place_after, IsAmong, IsWithin}
 use Rattle.brd_explore.specs.Failures.{fails_at}
-use Rattle.brd_explore.specs.Searching.{FailsAt, IsFound}
+use Rattle.brd_explore.specs.Searching.{FailsAt}
 use Rattle.brd_only.specs.declared.region.Region.{Region}
 use Rattle.brd_only.specs.Only.{switches_inside, KeepsInside, IsFoundInside}
 

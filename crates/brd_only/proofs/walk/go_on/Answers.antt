@@ -1,4 +1,4 @@
-use Rattle.std.proofs.Common.{refl, sym, ap, subst, ◌∙◌, ◌≡◌, ℕ, arith}
+use Rattle.std.proofs.Common.{refl, sym, ap, subst, ◌∙◌, ◌≡◌, arith}
 use Rattle.std.specs.Prelude.{not}
 use Rattle.brd_board.specs.Board.{Happened}
 use Rattle.brd_only.specs.Spots.{spot_of}
