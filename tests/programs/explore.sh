@@ -648,6 +648,26 @@ done
 assembled peterson_right.s
 explores "$image" $examples/peterson.cfg --word inside=0..1 --events 60 --preemptions 9 --threads 3 --time 2
 verdict "explore: time is over for threads" "$(is_over $?)"
+# Through places they go together, and come to the very same: some 2,800 places, of which many come at once; and where
+# a writer is left out, the schedule of the first place that fails.
+how=()
+for source in readers_right readers; do
+    assembled $source.s
+    for threads in 1 2 3 5; do
+        : > "$work/found"
+        explores "$image" $examples/readers.cfg --exception --events 50 --preemptions 4 --threads $threads \
+            --out "$work/found"
+        echo "status $?" >> "$work/out"
+        cat "$work/found" >> "$work/out"
+        [ $threads -gt 1 ] || mv "$work/out" "$work/wanted"
+        [ $threads = 1 ] || verdict "explore: places of $source by $threads threads" \
+            "$(cmp "$work/wanted" "$work/out" || head -c 300 "$work/out")"
+    done
+    check_that="$(head -n 1 "$work/wanted")"
+    verdict "explore: places of $source by one thread" \
+        "$(case $check_that in "none of the schedules fails: "* | "fails after "*) ;; *) echo "$check_that" ;; esac)"
+done
+how=(--memory 0)
 
 # ---- Preemptions in some regions alone
 
