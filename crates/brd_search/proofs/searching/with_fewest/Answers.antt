@@ -18,3 +18,8 @@ pub returns-in-Err-within-2-clause-stops : goal.returns-in-Err-within-2-clause-s
 returns-in-Err-within-2-clause-stops g c =
     c.no_answer-in-Err-within-2.ensures c.args.plan.now c.args.board.now g.W.Watch.may_stop c.in-Err-within-2.ensures.stops
     (omega arith) (search rules)
+
+pub loop-preemptions-preserved : goal.loop-preemptions-preserved
+loop-preemptions-preserved g c =
+    below-next c.args.plan.now c.args.board.now c.loop-preemptions.preemptions c.in-Ok.searched.schedule c.loop-preemptions.invariant
+    (search rules) c.in-Ok.ensures.is

@@ -10,12 +10,16 @@ returns-in-Err-clause-stops g c =
 
 pub returns-in-Found-clause-is : goal.returns-in-Found-clause-is
 returns-in-Found-clause-is g c =
+    let from = start c.args.board.now c.args.bounds in
+    let so = subst (λ es. FoundSo c.args.plan.now.wanted es c.as_slice-2.result.now from c.in-Ok.found) c.as_slice.ensures c.in-Ok.ensures.is in
+    let same = subst (λ rs. FoundSo c.args.plan.now.wanted c.args.plan.now.among rs from c.in-Ok.found) c.as_slice-2.ensures so in
     found-in c.args.plan.now c.args.board.now c.args.bounds c.in-Found.events.items c.requires
-    (subst (FoundSo c.args.plan.now.wanted c.args.plan.now.among c.args.plan.now.only (start c.args.board.now c.args.bounds)) c.in-Found.is
-    c.in-Ok.ensures.is)
+    (subst (FoundSo c.args.plan.now.wanted c.args.plan.now.among c.args.plan.now.only from) c.in-Found.is same)
 
 pub returns-in-NoneFails-clause-is : goal.returns-in-NoneFails-clause-is
 returns-in-NoneFails-clause-is g c =
+    let from = start c.args.board.now c.args.bounds in
+    let so = subst (λ es. FoundSo c.args.plan.now.wanted es c.as_slice-2.result.now from c.in-Ok.found) c.as_slice.ensures c.in-Ok.ensures.is in
+    let same = subst (λ rs. FoundSo c.args.plan.now.wanted c.args.plan.now.among rs from c.in-Ok.found) c.as_slice-2.ensures so in
     in-none c.args.plan.now.only c.args.plan.now c.args.board.now c.args.bounds c.requires
-    (subst (FoundSo c.args.plan.now.wanted c.args.plan.now.among c.args.plan.now.only (start c.args.board.now c.args.bounds))
-    c.in-NoneFails.is c.in-Ok.ensures.is)
+    (subst (FoundSo c.args.plan.now.wanted c.args.plan.now.among c.args.plan.now.only from) c.in-NoneFails.is same)
