@@ -157,7 +157,7 @@ class Runs:
         wrong = self.form(case, ended)
         if wrong or ended.status == 3 and ample.status != 3:
             wrong = wrong or self.unfinished(case, ended, ample)
-        elif case.kind == "race":
+        elif case.kind in ("race", "explore"):  # a search may go on one by one then, and find another schedule
             wrong = self.look(case, ended)
         elif (ended.stdout, fault_of(ended.stderr), ended.files) != (ample.stdout, fault_of(ample.stderr), ample.files):
             wrong = "another output than with ample memory"
