@@ -136,7 +136,7 @@ says "a search with time enough" 0 \
     "$adders" explore TIME=300 PREEMPTIONS=2
 says "a search with time finds what fails" 2 '^fails after [0-9]+ events: ' "$adders" explore TIME=300 CFLAGS=-DRACE
 says "a search whose time is over" 0 '^with [1-9][0-9]* preemptions?: not known, TIME=2 seconds are over$' \
-    "$adders" explore TIME=2 THREADS=1
+    "$adders" explore TIME=2 LOOK='--memory 0'
 has "what a search knows when its time is over" \
     '^none of [0-9]+ schedules? fails: at most 100000 events, [0-9]+ preemptions?, 0 ticks and 0 raises$'
 verdict "they are one bound apart" "$(awk '
@@ -147,7 +147,7 @@ says "a search that ends since one preemption more makes no more schedules" 0 \
     '^none of the schedules fails: at most 10 events, 1 preemption, 0 ticks and 0 raises$' \
     "$new" explore TIME=300 RAISES=0 EVENTS=10
 says "a search with no time for one without preemptions" 2 '^without preemptions: not known, TIME=1 seconds are over$' \
-    "$adders" explore TIME=1 TICKS=9 THREADS=1
+    "$adders" explore TIME=1 TICKS=9 LOOK='--memory 0'
 says "a search's TIME" 2 "^TIME is a number of seconds, and not 'long'\$" "$adders" explore TIME=long
 says "a hunt whose time is over" 0 '^TIME=2 seconds are over: seed [0-9]+ is the next$' "$adders" hunt TIME=2 SEED=5
 has "what a hunt knows when its time is over" '^ok: [0-9]+ orders?, from seed 5 on, with the console of firmware\.journal$'
@@ -176,7 +176,7 @@ verdict "it is left as it is" "$(diff sdk/project/firmware.console "$new/firmwar
 says "a report of an assertion" 0 "^$task\$" "$new" run CFLAGS=-w
 says "a hunt whose journal has an assertion" 2 "^  $task\$" "$new" hunt CFLAGS=-w TRIES=2 EXPECT=refused
 # (One by one, since another schedule fails by a lost raise.)
-says "schedules with an assertion" 2 "^$task\$" "$new" explore CFLAGS=-w THREADS=1
+says "schedules with an assertion" 2 "^$task\$" "$new" explore CFLAGS=-w LOOK='--memory 0'
 # From the condition to the exception, and so from there to the failure of a search, there are some steps and no calls.
 sed 's/answer == E_OK/i < 1/' sdk/project/firmware.c > "$new/firmware.c"
 project "$new" trace CFLAGS=-w TRACEFLAGS="--instructions"
