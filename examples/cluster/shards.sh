@@ -24,7 +24,7 @@ prepare() {
 # merge OUT: tells what the shards came to, with the status that `board explore` would have. A schedule fails if a shard
 # says so, and its journal is kept as OUT. None does only if all say so.
 merge() {
-    local shard status total=1 tried ended=0
+    local shard status total=0 tried ended=0
     for shard in $(seq "$shards"); do
         if [ "$(cat "$work/status.$shard" 2> /dev/null)" = 5 ] && cp "$work/found.$shard" "$1"; then
             cat "$work/out.$shard"
@@ -40,8 +40,7 @@ merge() {
             [ ! -f "$work/err.$shard" ] || cat "$work/err.$shard" >&2
             case $status in 1 | 2 | 3) return "$status" ;; *) return 4 ;; esac
         fi
-        # (each shard tries the first schedule, from which the others branch off)
-        total=$((total + tried - 1))
+        total=$((total + tried))
         grep -q '^0 came to an end' "$work/out.$shard" || ended=1
     done
     sed -n "1s/^none of [0-9]* schedules\{0,1\}/none of $total schedules/; 1s/, shard .*//; 1,2p" "$work/out.1"

@@ -205,25 +205,12 @@ class Search:
         self.setup, self.bounds, self.wanted, self.shard = setup, bounds, wanted, shard
         self.among = [("S", number) for number in range(1, setup.processors + 1)]
         self.among += [("T", 0)] * (bounds.ticks > 0) + [("R", line) for line in lines if bounds.raises]
-        self.tried, self.ended, self.branches, self.found = 0, 0, 0, None
+        self.tried, self.ended, self.found = 0, 0, None
         self.cut = {"events": 0, "ticks": 0}
 
     def run(self):
-        """Goes along the trunk, the schedule on which always the first event comes that may, and searches the branches
-        that leave it: those that are the shard's."""
-        board, place = Explored(self.setup), Place(self.bounds, 0, None, None)
-        ways = self.ways(board, place)
-        while ways:
-            for event, after in self.own(ways[1:]):
-                branch = pickle.loads(board.packed())
-                branch.event(*event)
-                self.search(branch, left_by(branch, after, event))
-                if self.found:
-                    return self.found
-            event, place = ways[0]
-            board.event(*event)
-            place = left_by(board, place, event)
-            ways = self.ways(board, place)
+        """Searches the schedules of the shard."""
+        self.search(Explored(self.setup), Place(self.bounds, 0, None, None))
         return self.found
 
     def search(self, board, place):
@@ -251,24 +238,33 @@ class Search:
                                  for after in [place_after(board, place, event)] if min(after.left) >= 0]
         if fault:
             self.found = listed(place.path), fault
-        elif not ways:
+        elif not ways and (self.is_dealt(place.left) or self.shard[0] == 1):
             self.tried += 1
             if board.is_end(place.left):
                 self.ended += 1
             else:
                 self.cut[board.cut_by(place.left)] += 1
-        return [way for way in ways if not self.is_left_out(place, way[0])]
+        return [way for way in ways if not self.is_left_out(place, way[0]) and not self.is_others(place, way[1])]
 
     def is_left_out(self, place, event):
         number = place.asleep and place.asleep.processor
         return event == ("S", number) and place.last != number and not self.wanted.rounds
 
-    def own(self, others):
-        """Those of some branches, numbered along the trunk, that are the shard's."""
+    def is_dealt(self, left):
+        """Whether a schedule is dealt out: its second choice that costs is made, or the only one that the bounds have."""
+        bounds = choices(self.bounds)
+        return choices(left) < (bounds - 1 if bounds > 1 else bounds)
+
+    def is_others(self, place, after):
+        """Whether an event deals the schedule to another shard. A schedule that is never dealt out is in every shard, and
+        the first one counts it."""
         number, of = self.shard
-        own = [way for at, way in enumerate(others, self.branches) if at % of == number - 1]
-        self.branches += len(others)
-        return own
+        is_deal = self.is_dealt(after.left) and not self.is_dealt(place.left)
+        return is_deal and after.left.events % of != number - 1
+
+
+def choices(left):
+    return left.preemptions + left.ticks + left.raises
 
 
 def place_after(board, place, event):

@@ -39,8 +39,6 @@ pub struct Screen<'a> {
     /// How long after that it is shown next.
     due: Duration,
     is_shown: bool,
-    /// Whether a search counts places, and not schedules.
-    counts_places: bool,
     /// Who reads advice.
     reader: Reader,
     /// Whether a command has begun.
@@ -48,13 +46,12 @@ pub struct Screen<'a> {
 }
 
 impl<'a> Screen<'a> {
-    /// The line of a program that begins now. It is told where it is seen whether work is to stop, whether the program
-    /// has a dialogue by standard input, and whether a search counts places.
+    /// The line of a program that begins now. It is told where it is seen whether work is to stop, and whether the
+    /// program has a dialogue by standard input.
     pub fn new(
         rt: &'a HostRuntime,
         inbox: Option<Arc<Inbox, Global>>,
         is_dialogue: bool,
-        counts_places: bool,
     ) -> Screen<'a> {
         let began = Instant::now(rt).ok();
         Screen {
@@ -68,7 +65,6 @@ impl<'a> Screen<'a> {
             },
             due: Duration::from_millis(PATIENCE),
             is_shown: false,
-            counts_places,
             reader: if !is_dialogue {
                 Reader::NoDialogue
             } else if rt.stdin().is_terminal() {
@@ -118,16 +114,17 @@ impl<'a> Progress for Screen<'a> {
     }
 
     /// Writes the line anew, where it is time for that.
-    fn tried(&mut self, count: u64) {
-        if !self.is_due() {
-            return;
+    fn tried(&mut self, schedules: u64) {
+        if self.is_due() {
+            let _ = eprint!(self.rt; "\r{schedules} schedules tried, none fails so far\x1b[K");
         }
-        let what = if self.counts_places {
-            "places gone through"
-        } else {
-            "schedules tried"
-        };
-        let _ = eprint!(self.rt; "\r{count} {what}, none fails so far\x1b[K");
+    }
+
+    /// Writes the line anew, where it is time for that.
+    fn gone_through(&mut self, places: u64) {
+        if self.is_due() {
+            let _ = eprint!(self.rt; "\r{places} places gone through, none fails so far\x1b[K");
+        }
     }
 
     /// By what GDB sends while a move is on.

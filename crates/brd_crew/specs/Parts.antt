@@ -7,8 +7,8 @@ use Rattle.brd_explore.specs.Schedules.{Place}
 use Rattle.brd_explore.specs.Searching.{IsFound}
 use Rattle.brd_explore.specs.Shards.{NoneFailsInShard}
 
--- A shard's branches are dealt into a number of parts, as cards to players: part i of n parts has each n-th branch of
--- the shard, from the i-th on, both counted from 0.
+-- A shard's schedules are dealt out once more, to a number of parts: part i of n parts of shard K of M, all counted from
+-- 0, is shard i * M + K of n * M.
 abbrev pub part_of : Shard → ℕ → ℕ → Shard
 part_of shard parts part = record { number = part * shard.of + shard.number; of = parts * shard.of }
 
@@ -20,7 +20,7 @@ pub record Fits (shard : Shard) (parts : ℕ) : Type 0 where
 
 -- no schedule of a part fails
 abbrev pub NoneInPart : Wanted → Shard → ℕ → List Event → Place → ℕ → Type 0
-NoneInPart wanted shard parts among from part = NoneFailsInShard wanted (part_of shard parts part) among from 0
+NoneInPart wanted shard parts among from part = NoneFailsInShard wanted (part_of shard parts part) among from
 
 -- What a thread has found is so: a schedule is one that was found, and of no part that it has done one fails.
 pub record HasSearched (wanted : Wanted) (shard : Shard) (parts : ℕ) (among : List Event) (from : Place)

@@ -14,12 +14,6 @@ use brd_explore::{Bounds, Counts, Found, Halt, Shard, Wanted, Watch, find_in_sha
 use std::alloc::Global;
 use std::thread::{Threads, map_indices};
 
-/// A shard that has no branch: only the schedule that all shards share.
-const TRUNK: Shard = Shard {
-    number: u32::MAX - 1,
-    of: u32::MAX,
-};
-
 /// Searches those schedules of a board within bounds that are in a shard, for one that fails, by so many threads of the
 /// host. At most `remember` places are kept by all of them together. Where several fail, it depends on the threads which
 /// one is found.
@@ -45,35 +39,10 @@ pub fn find_by_threads<T: Threads + Sync, W: Watch + Send>(
     let Some(parts) = parts_for(shard, threads) else {
         return find_in_shard(alloc, board, bounds, among, shard, wanted, remember, watch);
     };
-    let trunk = find_in_shard(alloc, board, bounds, among, TRUNK, wanted, 0, watch)?;
-    if trunk.schedule.is_some() {
-        return Ok(trunk);
-    }
     let shares = all_shares(
-        rt,
-        alloc,
-        threads,
-        parts,
-        board,
-        bounds,
-        among,
-        shard,
-        wanted,
-        remember,
-        trunk.counts,
-        watch,
+        rt, alloc, threads, parts, board, bounds, among, shard, wanted, remember, watch,
     )?;
-    if let Some(found) = joined(
-        alloc,
-        parts,
-        board,
-        bounds,
-        among,
-        shard,
-        wanted,
-        shares,
-        trunk.counts,
-    )? {
+    if let Some(found) = joined(alloc, parts, board, bounds, among, shard, wanted, shares)? {
         return Ok(found);
     }
     find_in_shard(alloc, board, bounds, among, shard, wanted, remember, watch)
@@ -86,7 +55,7 @@ struct Share {
     schedule: Option<Vec<Event>>,
     /// The parts of which it has searched all schedules, and none fails.
     done: List<u32>,
-    /// The schedules that it has searched, without the one that all parts share.
+    /// The schedules that it has searched.
     counts: Counts,
 }
 
@@ -102,7 +71,6 @@ fn all_shares<T: Threads + Sync, W: Watch + Send>(
     shard: Shard,
     wanted: &Wanted,
     remember: usize,
-    trunk: Counts,
     watch: &mut W,
 ) -> Result<Vec<Result<Share, NoMemory>>, NoMemory>
     requires fits { Fits shard parts }
@@ -122,7 +90,7 @@ fn all_shares<T: Threads + Sync, W: Watch + Send>(
                 (start board.entry.now bounds) (option_map (λ events. events.items) share.schedule) share.done) }
         {
             search_parts(
-                alloc, parts, board, bounds, among, shard, wanted, each, trunk, &sharing,
+                alloc, parts, board, bounds, among, shard, wanted, each, &sharing,
             )
         },
     )?;
@@ -139,7 +107,6 @@ fn search_parts<W: Watch>(
     shard: Shard,
     wanted: &Wanted,
     remember: usize,
-    trunk: Counts,
     sharing: &Sharing<'_, W>,
 ) -> Result<Share, NoMemory>
     requires fits { Fits shard parts }
@@ -149,7 +116,7 @@ fn search_parts<W: Watch>(
     let mut share = Share {
         schedule: None,
         done: List::new(alloc),
-        counts: none(trunk),
+        counts: Counts::new(bounds),
     };
     for _ in 0..parts {
         let Some(part) = sharing.take(parts) else {
@@ -162,7 +129,7 @@ fn search_parts<W: Watch>(
         else {
             return Ok(share);
         };
-        share.counts = plus(share.counts, less(found.counts, trunk));
+        share.counts = plus(share.counts, found.counts);
         if found.schedule.is_some() {
             sharing.end();
             share.schedule = found.schedule;
@@ -216,7 +183,6 @@ fn joined(
     shard: Shard,
     wanted: &Wanted,
     shares: Vec<Result<Share, NoMemory>>,
-    trunk: Counts,
 ) -> Result<Option<Found>, NoMemory>
     requires fits { Fits shard parts }
     requires shares { All (λ share. IfOk share (λ share. HasSearched wanted.now shard parts among.now
@@ -226,7 +192,7 @@ fn joined(
         (option_map (λ events. events.items) found.schedule))) }
 {
     let mut done = List::new(alloc);
-    let mut counts = trunk;
+    let mut counts = Counts::new(bounds);
     for share in shares {
         let Share {
             schedule,
@@ -267,17 +233,6 @@ fn is_among(parts: &[u32], part: u32) -> bool
     parts.contains(&part)
 }
 
-/// No schedules, with as many preemptions left as on the one that all parts share.
-fn none(trunk: Counts) -> Counts {
-    Counts {
-        tried: 0,
-        ended: 0,
-        out_of_events: 0,
-        out_of_ticks: 0,
-        spare: trunk.spare,
-    }
-}
-
 /// The schedules of both.
 fn plus(some: Counts, others: Counts) -> Counts {
     Counts {
@@ -286,16 +241,5 @@ fn plus(some: Counts, others: Counts) -> Counts {
         out_of_events: some.out_of_events.saturating_add(others.out_of_events),
         out_of_ticks: some.out_of_ticks.saturating_add(others.out_of_ticks),
         spare: some.spare.min(others.spare),
-    }
-}
-
-/// The schedules of a part without the one that all parts share.
-fn less(part: Counts, trunk: Counts) -> Counts {
-    Counts {
-        tried: part.tried.saturating_sub(trunk.tried),
-        ended: part.ended.saturating_sub(trunk.ended),
-        out_of_events: part.out_of_events.saturating_sub(trunk.out_of_events),
-        out_of_ticks: part.out_of_ticks.saturating_sub(trunk.out_of_ticks),
-        spare: part.spare,
     }
 }

@@ -13,5 +13,5 @@ pub fn parts_are_the_whole()
     ensures { (shard : ShardOf) (parts : ℕ) → 0 < shard.of → 0 < parts →
         (wanted : WantedOf) (among : List EventOf) (place : Place) →
         ((part : ℕ) → part < parts → NoneInPart wanted shard parts among place part) →
-        NoneFailsInShard wanted shard among place 0 }
+        NoneFailsInShard wanted shard among place }
 {}

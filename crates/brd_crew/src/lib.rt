@@ -1,5 +1,5 @@
-//! A search by several threads of the host. A shard is dealt into parts, many more than there are threads; each thread
-//! searches one part after the other, always the next one that nobody has taken.
+//! A search by several threads of the host. A shard is dealt out to parts; each thread searches one part after the other,
+//! always the next one that nobody has taken.
 //!
 //! `specs/Parts.antt` says what a part is, and `laws` that the parts are the whole.
 #![tactic(auto)]

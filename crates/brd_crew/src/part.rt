@@ -5,20 +5,17 @@ ghost use Rattle.brd_crew.specs.Parts.{Fits, part_of};
 
 use brd_explore::Shard;
 
-/// How many parts there are for each thread (own choice): who has taken short ones goes on with others.
-const PARTS: u32 = 16;
-
-/// Into how many parts a shard is dealt for so many threads. `None`: it isn't dealt, since one thread is enough, or the
-/// numbers of the parts would be too large.
+/// Into how many parts a shard is dealt for so many threads: one for each, since each part goes through the schedules
+/// again that are in every shard. `None`: it isn't dealt, since one thread is enough, or the numbers of the parts would
+/// be too large.
 pub(crate) fn parts_for(shard: Shard, threads: u32) -> Option<u32>
     ensures { IfSome result (λ parts. Fits shard parts) }
 {
     if threads < 2 || shard.number >= shard.of {
         return None;
     }
-    let parts = threads.checked_mul(PARTS)?;
-    parts.checked_mul(shard.of)?;
-    Some(parts)
+    threads.checked_mul(shard.of)?;
+    Some(threads)
 }
 
 /// A part of a shard, as a shard.

@@ -15,7 +15,7 @@ use Rattle.brd_explore.proofs.RichLemmas.{rich-none}
 
 -- Where nobody sleeps every schedule is searched, whoever might sleep.
 
-all-lead : (wanted : Wanted) (among : List Event) (spot : Spot) (es : List Event) (to : Place) → LeadsAwake wanted among spot es to → Leads among spot.place es to
+pub all-lead : (wanted : Wanted) (among : List Event) (spot : Spot) (es : List Event) (to : Place) → LeadsAwake wanted among spot es to → Leads among spot.place es to
 all-lead wanted among spot [] to leads = leads
 all-lead wanted among spot (e ∷ es) to leads = (leads.0, leads.1, leads.2, all-lead wanted among (next_spot spot e) es to leads.4)
 

@@ -14,7 +14,7 @@ use Rattle.brd_explore.specs.declared.wanted.Wanted.{Wanted}
 use Rattle.brd_explore.specs.Schedules.{Place, is_left, event_at}
 use Rattle.brd_explore.specs.Sleeping.{is_left_out}
 use Rattle.brd_explore.specs.Failures.{fails_at}
-use Rattle.brd_explore.specs.Searching.{NoneGoes, NoneHere, IsTooMuch, HasGone, HasStayed, HasPassed, HasGoneBack, KeepsRest, IsOnPath, LeavesOut, LeadsOn, HasLess, turns_left, place_of, spot_of}
+use Rattle.brd_explore.specs.Searching.{NoneGoes, NoneHere, IsTooMuch, HasGone, HasStayed, HasPassed, HasGoneBack, KeepsOr, IsOnPath, LeavesOut, LeadsOn, HasLess, turns_left, place_of, spot_of}
 use Rattle.brd_explore.specs.Knowing.{spot_of_kept, AreDone, AreOver, ArePending, IsKeptOf, IsPending, Knows, KnowsOn, Leaves, Notes}
 use Rattle.brd_explore.proofs.FindLemmas.{back-same}
 use Rattle.brd_explore.proofs.LessLemmas.{less-back}
@@ -23,9 +23,9 @@ use Rattle.brd_explore.proofs.SearchLemmas.{leaves-gone, leaves-stayed, leaves-p
 
 -- how many places there are to go back to
 
-kept-length : (among : List Event) (s t : Search) (at : ℕ) → KeepsRest among s at t → length s.saved.items ≤ length t.saved.items
-kept-length among s t at (inl same) = omega (arith, ap length same.0)
-kept-length among s t at (inr more) = omega (arith, ap length more.1, length-append s.saved.items (more.0 ∷ []))
+kept-length : {Else : Type 0} (s t : Search) (at : ℕ) → KeepsOr Else s at t → length s.saved.items ≤ length t.saved.items
+kept-length s t at (inl same) = omega (arith, ap length same.0)
+kept-length s t at (inr more) = omega (arith, ap length more.1, length-append s.saved.items (more.0 ∷ []))
 
 back-length : (s t : Search) → HasGoneBack s t → length s.saved.items ≡ length t.saved.items + 1
 back-length s t back = omega (arith, ap length back.saved, length-append t.saved.items (back.f ∷ []))
@@ -37,7 +37,7 @@ pending-gone : (wanted : Wanted) (among : List Event) (s t : Search) (at : ℕ) 
     IsPending wanted among s k → IsPending wanted among t k
 pending-gone wanted among s t at k on below left much gone fine (inl none) = inl none
 pending-gone wanted among s t at k on below left much gone fine (inr if) = inr (
-  omega (arith, if.0, kept-length among s t at gone.saved),
+  omega (arith, if.0, kept-length s t at gone.saved),
   λ none. if.1 (leaves-gone wanted among k.height s t at if.0 on below left much gone fine none),
 )
 

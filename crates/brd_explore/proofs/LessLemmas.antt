@@ -9,7 +9,7 @@ use Rattle.brd_explore.specs.declared.bounds.Bounds.{Bounds}
 use Rattle.brd_explore.specs.declared.search.Search.{Search}
 use Rattle.brd_explore.specs.declared.search.Saved.{Saved}
 use Rattle.brd_explore.specs.Schedules.{Place, affords, affords_one, spent, is_left, event_at}
-use Rattle.brd_explore.specs.Searching.{place_of, most_turns, most_saved, turns_left, KeepsRest, HasGone, HasStayed, HasPassed, HasGoneBack}
+use Rattle.brd_explore.specs.Searching.{place_of, most_turns, most_saved, turns_left, KeepsOr, HasGoneOr, HasStayed, HasPassed, HasGoneBack}
 
 -- something is left for an event, so one event fewer is left after it
 
@@ -56,12 +56,12 @@ saved-more n (g ∷ fs) f = omega (arith, saved-more n fs f)
 abbrev Events : Place → ℕ
 Events p = p.left.events
 
-gone-place : (among : List Event) (s t : Search) (at left : ℕ) → s.left.events ≡ suc left → HasGone among s at t → t.left.events ≡ left
+gone-place : {Else : Type 0} (among : List Event) (s t : Search) (at left : ℕ) → s.left.events ≡ suc left → HasGoneOr Else among s at t → t.left.events ≡ left
 gone-place among s t at left is gone =
     let here : t.left.events ≡ s.left.events - 1 = ap Events gone.place ∙ one-fewer s.left s.last (event_at among at) in
     omega (arith, here, is)
 
-kept-less : (among : List Event) (s t : Search) (at left : ℕ) → s.at ≤ at → at < length among → s.left.events ≡ suc left → KeepsRest among s at t →
+kept-less : {Else : Type 0} (among : List Event) (s t : Search) (at left : ℕ) → s.at ≤ at → at < length among → s.left.events ≡ suc left → KeepsOr Else s at t →
     most_turns (length among) left 0 + most_saved (length among) t.saved.items
     < most_turns (length among) (suc left) s.at + most_saved (length among) s.saved.items
 kept-less among s t at left on below is (inl same) =
@@ -76,8 +76,8 @@ kept-less among s t at left on below is (inr more) =
     < most_turns (length among) (suc left) s.at + most_saved (length among) s.saved.items) (sym more.1)
     (omega (arith, tried-one (length among) left s.at at on below, saved-more (length among) s.saved.items f, here))
 
-pub less-gone : (among : List Event) (s t : Search) (at : ℕ) → s.at ≤ at → at < length among → is_left (place_of s) (event_at among at) ≡ true →
-    HasGone among s at t → turns_left among t < turns_left among s
+pub less-gone : {Else : Type 0} (among : List Event) (s t : Search) (at : ℕ) → s.at ≤ at → at < length among → is_left (place_of s) (event_at among at) ≡ true →
+    HasGoneOr Else among s at t → turns_left among t < turns_left among s
 less-gone among s t at on below left gone =
     let after = (spent s.left s.last (event_at among at)).events in
     let is : s.left.events ≡ suc after = left-after (place_of s) (event_at among at) left in

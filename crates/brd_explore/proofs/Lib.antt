@@ -11,5 +11,5 @@ mod PartLemmas
 mod ShrinkLemmas
 mod LawLemmas
 mod LessLemmas
-mod ShardLemmas
+pub mod ShardLemmas
 mod KnownLemmas

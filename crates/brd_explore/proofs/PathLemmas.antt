@@ -9,7 +9,7 @@ use Rattle.brd_explore.specs.declared.search.Saved.{Saved}
 use Rattle.brd_explore.specs.declared.wanted.Wanted.{Wanted}
 use Rattle.brd_explore.specs.Schedules.{Place, does, is_left, next, place_after, event_at, IsAmong, IsWithin}
 use Rattle.brd_explore.specs.Failures.{fails_at}
-use Rattle.brd_explore.specs.Searching.{FailsAt, IsFound, place_of, place_of_saved, Leads, AreOnPath, IsOnPath, HasGone, HasStayed, HasPassed, HasGoneBack, KeepsRest}
+use Rattle.brd_explore.specs.Searching.{FailsAt, IsFound, place_of, place_of_saved, Leads, AreOnPath, IsOnPath, HasGoneOr, HasStayed, HasPassed, HasGoneBack, KeepsOr}
 use Rattle.brd_explore.proofs.LessLemmas.{left-after}
 
 -- what leads to a place is within the bounds
@@ -85,22 +85,22 @@ on-back among from path len (g ∷ fs) f on = (
 
 -- what a turn leaves
 
-on-kept : (among : List Event) (from : Place) (s t : Search) (at : ℕ) → IsOnPath among from s → KeepsRest among s at t →
+on-kept : {Else : Type 0} (among : List Event) (from : Place) (s t : Search) (at : ℕ) → IsOnPath among from s → KeepsOr Else s at t →
     AreOnPath among from s.path.items 0 t.saved.items
 on-kept among from s t at on (inl same) = subst (AreOnPath among from s.path.items 0) (sym same.0) on.saved
 on-kept among from s t at on (inr more) = subst (AreOnPath among from s.path.items 0) (sym more.1)
     (on-saved among from s.path.items 0 s.saved.items more.0 on.saved more.4
     (subst (Leads among from s.path.items) (sym more.2) on.here))
 
-leads-gone : (among : List Event) (from : Place) (s t : Search) (at : ℕ) → at < length among → is_left (place_of s) (event_at among at) ≡ true →
-    IsOnPath among from s → HasGone among s at t → Leads among from t.path.items (place_of t)
+leads-gone : {Else : Type 0} (among : List Event) (from : Place) (s t : Search) (at : ℕ) → at < length among → is_left (place_of s) (event_at among at) ≡ true →
+    IsOnPath among from s → HasGoneOr Else among s at t → Leads among from t.path.items (place_of t)
 leads-gone among from s t at below left on gone =
     subst (Leads among from t.path.items) (sym gone.place)
     (subst (λ es. Leads among from es (next (place_of s) (event_at among at))) (sym gone.path)
     (leads-on among from s.path.items (place_of s) (event_at among at) on.here (record { at = at; within = below; is = refl }) left gone.did))
 
-pub on-gone : (among : List Event) (from : Place) (s t : Search) (at : ℕ) → at < length among → is_left (place_of s) (event_at among at) ≡ true →
-    IsOnPath among from s → HasGone among s at t → IsOnPath among from t
+pub on-gone : {Else : Type 0} (among : List Event) (from : Place) (s t : Search) (at : ℕ) → at < length among → is_left (place_of s) (event_at among at) ≡ true →
+    IsOnPath among from s → HasGoneOr Else among s at t → IsOnPath among from t
 on-gone among from s t at below left on gone = record {
   here = leads-gone among from s t at below left on gone;
   saved = subst (λ es. AreOnPath among from es 0 t.saved.items) (sym gone.path)

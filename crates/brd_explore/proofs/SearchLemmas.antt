@@ -12,7 +12,7 @@ use Rattle.brd_explore.specs.declared.wanted.Wanted.{Wanted}
 use Rattle.brd_explore.specs.Schedules.{Place, does, is_left, next, place_after, event_at}
 use Rattle.brd_explore.specs.Failures.{fails_at}
 use Rattle.brd_explore.specs.Sleeping.{Spot, next_spot, is_left_out}
-use Rattle.brd_explore.specs.Searching.{FailsAt, NoneGoes, NoneGoesBy, NoneGoesFrom, IsTooMuch, place_of, spot_of, spot_of_saved, NoneHere, NoneLeftFrom, NoneLeft, HasGone, HasStayed, HasPassed, HasGoneBack, KeepsRest}
+use Rattle.brd_explore.specs.Searching.{FailsAt, NoneGoes, NoneGoesBy, NoneGoesFrom, IsTooMuch, place_of, spot_of, spot_of_saved, NoneHere, NoneLeftFrom, NoneLeft, HasGone, HasStayed, HasPassed, HasGoneBack, KeepsOr}
 
 -- whichever way a test of an event goes
 pub does-or : (b : BoardState) (e : Event) → (does b e ≡ true) ⊎ (does b e ≡ false)
@@ -63,7 +63,8 @@ IsFine wanted among f = NoneGoesFrom wanted among (spot_of_saved f) f.at
 abbrev Rest : Wanted → List Event → ℕ → Search → ℕ → Type 0
 Rest wanted among height s at = NoneGoesFrom wanted among (spot_of s) (at + 1) × All (IsFine wanted among) (drop height s.saved.items)
 
-kept-rest : (wanted : Wanted) (among : List Event) (height : ℕ) (s t : Search) (at : ℕ) → height ≤ length s.saved.items → KeepsRest among s at t →
+kept-rest : (wanted : Wanted) (among : List Event) (height : ℕ) (s t : Search) (at : ℕ) → height ≤ length s.saved.items →
+    KeepsOr (IsTooMuch among (place_of s) (at + 1) (length among)) s at t →
     All (IsFine wanted among) (drop height t.saved.items) → Rest wanted among height s at
 kept-rest wanted among height s t at low (inl same) all =
     (none-too_much wanted among (spot_of s) (at + 1) same.1, subst (λ fs. All (IsFine wanted among) (drop height fs)) same.0 all)

@@ -69,11 +69,11 @@ KnowsOn wanted among s known turn.On = Knows wanted among s known
 KnowsOn wanted among s known turn.Found = Unit {0}
 KnowsOn wanted among s known turn.Over = AreDone wanted among known
 
--- and along the trunk
-abbrev pub KnowsAlong : Wanted → List Event → Known → Turn → Type 0
-KnowsAlong wanted among known turn.On = AreDone wanted among known
-KnowsAlong wanted among known turn.Found = Unit {0}
-KnowsAlong wanted among known turn.Over = Unit {0}
+-- and where no schedule is dealt out yet
+abbrev pub KnowsIn : Wanted → List Event → Known → Turn → Type 0
+KnowsIn wanted among known turn.On = AreDone wanted among known
+KnowsIn wanted among known turn.Found = Unit {0}
+KnowsIn wanted among known turn.Over = Unit {0}
 
 -- the place where a search is was kept as a pending one, or nothing was
 abbrev pub Notes : Search → Known → Known → Type 0

@@ -118,22 +118,22 @@ pub record IsSized (s : Search) : Type 0 where
 
 -- What a turn of a search has done.
 
--- The events of later indices are still to be tried at a place that was saved, or nothing is left for them.
-abbrev pub KeepsRest : List Event → Search → ℕ → Search → Type 0
-KeepsRest among s at t =
-    ((t.saved.items ≡ s.saved.items) × IsTooMuch among (place_of s) (at + 1) (length among))
+-- The events of later indices are still to be tried at a place that was saved, or something is so of them.
+abbrev pub KeepsOr : Type 0 → Search → ℕ → Search → Type 0
+KeepsOr Else s at t =
+    ((t.saved.items ≡ s.saved.items) × Else)
     ⊎ ((f : Saved) × (t.saved.items ≡ s.saved.items ++ f ∷ []) × (place_of_saved f ≡ place_of s) × (f.at ≡ at + 1)
     × (f.len ≡ length s.path.items) × (f.asleep ≡ s.asleep))
 
 -- it has gone on by an event that did something
-pub record HasGone (among : List Event) (s : Search) (n : ℕ) (t : Search) : Type 0 where
+pub record HasGoneOr (Else : Type 0) (among : List Event) (s : Search) (n : ℕ) (t : Search) : Type 0 where
   pub did : does s.board (event_at among n) ≡ true
   pub place : place_of t ≡ next (place_of s) (event_at among n)
   pub asleep : t.asleep ≡ asleep_after s.board s.asleep (event_at among n)
   pub at : t.at ≡ 0
   pub fresh : t.fresh ≡ true
   pub path : t.path.items ≡ s.path.items ++ event_at among n ∷ []
-  pub saved : KeepsRest among s n t
+  pub saved : KeepsOr Else s n t
 
 -- it has stayed, since the event did nothing
 pub record HasStayed (among : List Event) (s : Search) (n : ℕ) (t : Search) : Type 0 where
@@ -154,9 +154,16 @@ pub record HasPassed (s : Search) (n : ℕ) (t : Search) : Type 0 where
   pub path : t.path.items ≡ s.path.items
   pub saved : t.saved.items ≡ s.saved.items
 
+abbrev pub TriesOr : Type 0 → List Event → Search → ℕ → Search → Bool → Type 0
+TriesOr Else among s at t true = HasGoneOr Else among s at t
+TriesOr Else among s at t false = HasStayed among s at t
+
+-- nothing is left for the events of later indices, if the place wasn't saved
+abbrev pub HasGone : List Event → Search → ℕ → Search → Type 0
+HasGone among s at t = HasGoneOr (IsTooMuch among (place_of s) (at + 1) (length among)) among s at t
+
 abbrev pub Tries : List Event → Search → ℕ → Search → Bool → Type 0
-Tries among s at t true = HasGone among s at t
-Tries among s at t false = HasStayed among s at t
+Tries among s at t done = TriesOr (IsTooMuch among (place_of s) (at + 1) (length among)) among s at t done
 
 -- it has gone back to the place that was saved last
 pub record HasGoneBack (s t : Search) : Type 0 where

@@ -1,49 +1,43 @@
 -- Shards: the parts of a search that several machines share.
-use Rattle.std.specs.Prelude.{◌≡◌, ◌⊎◌, ℕ, zero, suc, ◌+◌, ◌-◌, ◌%◌, ◌<◌, Bool, true, false, ◌&&◌, List, [], ◌∷◌}
-use Rattle.std.specs.Prelude.{length, Option, Some, None}
+use Rattle.std.specs.Prelude.{◌≡◌, ℕ, ◌+◌, ◌-◌, ◌%◌, nat_lt, Bool, true, false, if◌then◌else◌, List, [], ◌∷◌}
+use Rattle.std.specs.Prelude.{Option, Some, None}
 use Rattle.brd_board.specs.declared.event.Event.{Event}
+use Rattle.brd_explore.specs.declared.bounds.Bounds.{Bounds}
 use Rattle.brd_explore.specs.declared.shard.Shard.{Shard}
 use Rattle.brd_explore.specs.declared.wanted.Wanted.{Wanted}
-use Rattle.brd_explore.specs.Schedules.{Place, does, is_left, next, one_if, event_at, IsWithin}
-use Rattle.brd_explore.specs.Searching.{Fails, IsFound}
+use Rattle.brd_explore.specs.Schedules.{Place, next}
+use Rattle.brd_explore.specs.Searching.{FailsAt, IsFound, LeadsAwake}
+use Rattle.brd_explore.specs.Sleeping.{awake}
 
--- an event may come at a place: something is left for it, and it does something
-abbrev pub may_come : Place → Event → Bool
-may_come p event = is_left p event && does p.board event
+-- how many choices that cost are left: preemptions, ticks and raises
+abbrev pub choices : Bounds → ℕ
+choices left = left.preemptions + left.ticks + left.raises
 
--- how many of the first n events may come at a place
-abbrev pub ways : List Event → Place → ℕ → ℕ
-ways among p zero = 0
-ways among p (suc n) = ways among p n + one_if (may_come p (event_at among n))
+-- A schedule is dealt out by its second choice that costs, or by its first if the bounds have only one: as soon as fewer
+-- choices than these are left. If the bounds have none, no schedule is dealt out.
+abbrev pub undealt : Bounds → ℕ
+undealt bounds = if nat_lt 1 (choices bounds) then choices bounds - 1 else choices bounds
 
--- The trunk of all schedules is the one on which always the first event comes that may. Where n events may come, n - 1
--- branches leave it.
-abbrev pub branches : List Event → Place → ℕ
-branches among p = ways among p (length among) - 1
+abbrev pub is_dealt : ℕ → Bounds → Bool
+is_dealt least left = nat_lt (choices left) least
 
--- The branches are numbered along the trunk, from 0; a shard has each one whose number, divided by how many shards
--- there are, leaves its own number.
-pub record IsOnBranch (shard : Shard) (among : List Event) (p : Place) (before at : ℕ) : Type 0 where
-  pub leaves : 0 < ways among p at
-  pub is : (before + (ways among p at - 1)) % shard.of ≡ shard.number
+-- Schedules are dealt to the shards in turn, by how many events are left then: one whose number, divided by how many
+-- shards there are, leaves the shard's number is the shard's. One that is never dealt out is in every shard.
+abbrev pub IsInShard : Shard → ℕ → Place → List Event → Type 0
+IsInShard shard least p [] = Unit {0}
+IsInShard shard least p (event ∷ events) =
+    (is_dealt least (next p event).left ≡ true → (next p event).left.events % shard.of ≡ shard.number)
+    × (is_dealt least (next p event).left ≡ false → IsInShard shard least (next p event) events)
 
--- A schedule from a place of the trunk, with a number of branches before it, is in a shard: it stays on the trunk, or
--- it leaves it by one of the shard's branches.
-abbrev pub IsInShard : Shard → List Event → Place → ℕ → List Event → Type 0
-IsInShard shard among p before [] = Unit {0}
-IsInShard shard among p before (event ∷ events) =
-    (does p.board event ≡ true → (at : ℕ) × (at < length among) × (event_at among at ≡ event)
-    × ((ways among p at ≡ 0) × IsInShard shard among (next p event) (before + branches among p) events
-    ⊎ IsOnBranch shard among p before at))
-    × (does p.board event ≡ false → IsInShard shard among p before events)
-
--- no schedule of a shard fails
-abbrev pub NoneFailsInShard : Wanted → Shard → List Event → Place → ℕ → Type 0
-NoneFailsInShard wanted shard among p before =
-    (events : List Event) → IsWithin among p events → IsInShard shard among p before events →
-    Fails wanted p events → ⊥
+-- No schedule of a shard fails. A shard has those schedules within the bounds on which nothing is left out (a step of a
+-- processor that sleeps is: another schedule comes to the same, which may be another shard's). So the shards together
+-- say that no schedule fails, and one alone only that none of its own does.
+abbrev pub NoneFailsInShard : Wanted → Shard → List Event → Place → Type 0
+NoneFailsInShard wanted shard among p =
+    (events : List Event) (to : Place) → LeadsAwake wanted among (awake p) events to →
+    IsInShard shard (undealt p.left) p events → FailsAt wanted to → ⊥
 
 -- What the search of a shard answers is so: the schedule is one that was found, or none of the shard fails.
 abbrev pub AnswersInShard : Wanted → Shard → List Event → Place → Option (List Event) → Type 0
 AnswersInShard wanted shard among from (Some events) = IsFound wanted among from events
-AnswersInShard wanted shard among from None = NoneFailsInShard wanted shard among from 0
+AnswersInShard wanted shard among from None = NoneFailsInShard wanted shard among from

@@ -4,6 +4,7 @@ ghost use Rattle.std.specs.Prelude.{◌≡◌, true, if◌then◌else◌, is_som
 ghost use Rattle.brd_board.specs.Board.{registers_of};
 ghost use Rattle.brd_journal.specs.Still.{did_nothing};
 ghost use Rattle.brd_explore.specs.Schedules.{affords, is_last, preempts, spent, stepper};
+ghost use Rattle.brd_explore.specs.Shards.{choices};
 
 use brd_board::{Board, Event, Report};
 
@@ -36,6 +37,13 @@ impl Bounds {
             Event::Tick => self.ticks > 0,
             Event::Raise(_) => self.raises > 0,
         }
+    }
+
+    /// How many choices that cost are left: preemptions, ticks and raises.
+    pub(crate) fn choices(&self) -> u64
+        ensures { result ≡ choices self.now }
+    {
+        u64::from(self.preemptions) + u64::from(self.ticks) + u64::from(self.raises)
     }
 
     /// What is left after an event for which something was left.

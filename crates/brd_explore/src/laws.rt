@@ -31,6 +31,6 @@ pub fn larger_bounds_find_as_much()
 /// The shards of a number of them are the whole: where none of their schedules fails, none within the bounds does.
 pub fn shards_are_the_whole()
     ensures { (of : ℕ) → 0 < of → (wanted : WantedOf) (among : List EventOf) (place : Place) →
-        ((shard : ShardOf) → shard.of ≡ of → shard.number < of → NoneFailsInShard wanted shard among place 0) →
+        ((shard : ShardOf) → shard.of ≡ of → shard.number < of → NoneFailsInShard wanted shard among place) →
         NoneFails wanted among place }
 {}

@@ -19,6 +19,7 @@ ghost use Rattle.brd_explore.specs.Searching.{
   NoneFails,
   NoneLeft,
   Tries,
+  TriesOr,
   GoesBack,
   HasPassed,
   Takes,
@@ -152,7 +153,7 @@ impl Search {
     }
 
     /// A copy of the board, in place of a spare one if there is one.
-    fn copy(&mut self) -> Result<Board, NoMemory>
+    pub(crate) fn copy(&mut self) -> Result<Board, NoMemory>
         requires { IsSized self.old }
         ensures board { IfOk result (λ board. board ≡ self.old.board) }
         ensures rest { IsSame self.old self.new }
@@ -207,12 +208,11 @@ impl Search {
         Ok(true)
     }
 
-    /// Does the last event for which something is left here. Answers whether it has done something.
-    fn try_last(&mut self, among: &[Event], at: usize) -> Result<bool, NoMemory>
+    /// Does the last event that is to be tried here. Answers whether it has done something.
+    pub(crate) fn try_last(&mut self, among: &[Event], at: usize) -> Result<bool, NoMemory>
         requires sized { IsSized self.old }
         requires within { at < length among.now }
-        requires rest { IsTooMuch among.now (place_of self.old) (at + 1) (length among.now) }
-        ensures is { IfOk result (λ done. Tries among.now self.old at self.new done) }
+        ensures is { IfOk result (λ done. TriesOr (Unit {0}) among.now self.old at self.new done) }
         ensures sized { IsSized self.new }
     {
         let done = self.take(among[at])?;
@@ -223,10 +223,10 @@ impl Search {
     }
 
     /// Does an event, while others are still to be tried here. Answers whether it has done something.
-    fn try_one(&mut self, among: &[Event], at: usize) -> Result<bool, NoMemory>
+    pub(crate) fn try_one(&mut self, among: &[Event], at: usize) -> Result<bool, NoMemory>
         requires sized { IsSized self.old }
         requires within { at < length among.now }
-        ensures is { IfOk result (λ done. Tries among.now self.old at self.new done) }
+        ensures is { IfOk result (λ done. TriesOr ⊥ among.now self.old at self.new done) }
         ensures sized { IsSized self.new }
     {
         let saved = self.saved(at + 1)?;
@@ -239,7 +239,7 @@ impl Search {
         requires within { at < length among.now }
         requires saved { (place_of_saved saved ≡ place_of self.old) × (saved.at ≡ at + 1)
             × (saved.len ≡ length self.old.path.items) × (saved.asleep ≡ self.old.asleep) }
-        ensures is { IfOk result (λ done. Tries among.now self.old at self.new done) }
+        ensures is { IfOk result (λ done. TriesOr ⊥ among.now self.old at self.new done) }
         ensures sized { IsSized self.new }
     {
         let done = self.take(among[at])?;
@@ -302,7 +302,7 @@ impl Search {
 
     /// Whether an event is left out here.
     #[tactic(auto, unfolding(crate::specs::Sleeping::is_left_out))]
-    fn is_left_out(&self, among: &[Event], at: usize, wanted: &Wanted) -> bool
+    pub(crate) fn is_left_out(&self, among: &[Event], at: usize, wanted: &Wanted) -> bool
         requires { at < length among.now }
         ensures { result ≡ is_left_out wanted.now (spot_of self.now) (event_at among.now at) }
     {
@@ -318,7 +318,7 @@ impl Search {
     }
 
     /// Leaves an event out. This is no end then.
-    fn pass(&mut self, among: &[Event], at: usize)
+    pub(crate) fn pass(&mut self, among: &[Event], at: usize)
         requires { at < length among.now }
         ensures passed { HasPassed self.old at self.new }
         ensures spare { self.new.spare.items ≡ self.old.spare.items }
@@ -344,7 +344,7 @@ impl Search {
     }
 
     /// Goes back to the place that was saved last. Answers whether there was one.
-    fn go_back(&mut self) -> bool
+    pub(crate) fn go_back(&mut self) -> bool
         requires { IsSized self.old }
         ensures is { GoesBack self.old self.new result }
         ensures sized { IsSized self.new }
@@ -536,7 +536,7 @@ pub struct Counts {
 
 impl Counts {
     /// None, where a search begins for which so much is left.
-    pub(crate) fn new(left: Bounds) -> Counts {
+    pub fn new(left: Bounds) -> Counts {
         Counts {
             tried: 0,
             ended: 0,
@@ -568,7 +568,7 @@ impl Counts {
     }
 }
 
-/// What is told how many schedules a search has tried.
+/// What is told how far a search is.
 pub trait Watch {
     ghost use Rattle.std.specs.Prelude.{◌≡◌, Bool, true, false};
 
@@ -579,6 +579,13 @@ pub trait Watch {
     /// search is to go on.
     fn tried(&mut self, schedules: u64) -> bool
         ensures { result ≡ false → Self.may_stop ≡ true };
+
+    /// So many places were gone through. Answers whether the search is to go on. What doesn't say otherwise lets it.
+    fn gone_through(&mut self, _places: u64) -> bool
+        ensures { result ≡ false → Self.may_stop ≡ true }
+    {
+        true
+    }
 }
 
 /// Who doesn't watch.

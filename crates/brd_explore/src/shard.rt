@@ -1,17 +1,36 @@
-//! A search that several machines share, by the branches that leave its first schedule.
+//! A search that several machines share: the schedules are dealt out to them by the second choice that costs.
 
-ghost use Rattle.std.specs.Prelude.{option_map, ◌≡◌, ◌+◌, ◌%◌, ◌<◌, [], ℕ, true};
-ghost use Rattle.std.specs.Prelude.{false, length, None, IfErr, IfOk, IfSome, IfNone};
+ghost use Rattle.std.specs.Prelude.{option_map, ◌≡◌, ◌≤◌, ◌<◌, ℕ, true, false, length, IfErr, IfOk, IfSome, IfNone};
 ghost use Rattle.brd_explore.specs.Schedules.{event_at, start};
-ghost use Rattle.brd_explore.specs.Knowing.{AreDone, KnowsAlong};
-ghost use Rattle.brd_explore.specs.Searching.{HaltsSo, IsSized, place_of};
-ghost use Rattle.brd_explore.specs.Shards.{AnswersInShard, may_come, ways};
-ghost use Rattle.brd_explore.specs.Sharing.{BeginsHere, GoesAlong, IsFirst, IsOnTrunk, SearchesBranch};
-ghost use Rattle.brd_explore.specs.Sharing.{SearchesBranches, SearchesFrom, SearchesShard, SearchesWay};
+ghost use Rattle.brd_explore.specs.Knowing.{AreDone, KnowsIn, Leaves};
+ghost use Rattle.brd_explore.specs.Searching.{
+  HaltsSo,
+  HasLess,
+  IsOnPath,
+  IsSame,
+  IsSized,
+  LeadsOn,
+  ended_by,
+  place_of,
+};
+ghost use Rattle.brd_explore.specs.Shards.{AnswersInShard, is_dealt, undealt};
+ghost use Rattle.brd_explore.specs.Sharing.{
+  AreOthers,
+  BeginsHere,
+  LeavesOutIn,
+  NoneLeftIn,
+  SearchesAll,
+  SearchesFrom,
+  SearchesShard,
+  TriesIn,
+  goes_in,
+  is_choice,
+  may_come,
+};
 
 use crate::bounds::{Bounds, did_nothing};
 use crate::known::{Known, may_have_more};
-use crate::search::{Counts, Found, Halt, Search, Turn, Watch};
+use crate::search::{Counts, Found, Halt, Search, Turn, Watch, find};
 use crate::wanted::Wanted;
 use brd_base::NoMemory;
 use brd_board::{Board, Event};
@@ -26,8 +45,43 @@ pub struct Shard {
     pub of: u32,
 }
 
+/// How schedules are dealt out to a shard.
+#[derive(Clone, Copy)]
+struct Deal {
+    shard: Shard,
+    /// A schedule is dealt out as soon as fewer choices that cost are left.
+    least: u64,
+}
+
+impl Deal {
+    /// How schedules within bounds are dealt out.
+    fn new(shard: Shard, bounds: Bounds) -> Deal
+        ensures shard { result.shard ≡ shard }
+        ensures least { result.least ≡ undealt bounds }
+    {
+        let choices = bounds.choices();
+        let least = if choices > 1 { choices - 1 } else { choices };
+        Deal { shard, least }
+    }
+
+    /// Whether a schedule is dealt out that has so much left of the bounds.
+    fn is_dealt(self, left: Bounds) -> bool
+        ensures { result ≡ is_dealt self.least left }
+    {
+        left.choices() < self.least
+    }
+
+    /// Whether a schedule that has so much left of the bounds is dealt to nobody yet, or to the shard.
+    fn goes_in(self, left: Bounds) -> bool
+        requires { 0 < self.shard.of }
+        ensures { result ≡ goes_in self left }
+    {
+        !self.is_dealt(left) || left.events % self.shard.of == self.shard.number
+    }
+}
+
 /// Searches those schedules of a board within bounds that are in a shard, for one that fails. At most `remember` places
-/// are kept, so that none of them is searched a second time.
+/// are kept, so that none of them is searched a second time. A schedule that is in every shard is counted in the first.
 pub fn find_in_shard<W: Watch>(
     alloc: Global,
     board: &Board,
@@ -45,162 +99,179 @@ pub fn find_in_shard<W: Watch>(
         (option_map (λ events. events.items) found.schedule)) }
     ensures halts { IfErr result (HaltsSo W.may_stop) }
 {
+    if shard.of == 1 {
+        return find(alloc, board, bounds, among, wanted, remember, watch);
+    }
     if wanted.fails_at(board, bounds)? {
         return Ok(Found {
             schedule: Some(Vec::new(alloc)),
             counts: Counts::new(bounds),
         });
     }
-    let mut trunk = Search::new(alloc, board, bounds)?;
+    let mut search = Search::new(alloc, board, bounds)?;
     let mut known = Known::new(alloc, remember);
-    let found = trunk.run_in_shard(among, shard, wanted, &mut known, watch)?;
-    Ok(trunk.into_found(found))
+    let deal = Deal::new(shard, bounds);
+    let found = search.run_in_shard(among, deal, wanted, &mut known, watch)?;
+    Ok(search.into_found(found))
 }
 
 impl Search {
-    /// Goes along the trunk, and searches the branches of a shard. Answers whether something is found.
+    /// Takes turns until something is found, or nothing of the shard is left. Answers whether something is found.
     fn run_in_shard<W: Watch>(
         &mut self,
         among: &[Event],
-        shard: Shard,
+        deal: Deal,
         wanted: &Wanted,
         known: &mut Known,
         watch: &mut W,
     ) -> Result<bool, Halt>
-        requires of { 0 < shard.of }
-        requires trunk { IsOnTrunk wanted.now self.old }
+        requires of { 0 < deal.shard.of }
+        requires sized { IsSized self.old }
         requires known { AreDone wanted.now among.now known.old }
-        ensures is { IfOk result (SearchesShard wanted.now shard among.now self.old self.new) }
+        ensures out { IfOk result (λ found. LeavesOutIn wanted.now deal among.now self.old self.new (ended_by found)) }
+        ensures on { (from : Place) → IsOnPath among.now from self.old
+            → IfOk result (λ found. LeadsOn wanted.now among.now from self.new (ended_by found)) }
         ensures halts { IfErr result (HaltsSo W.may_stop) }
     {
-        let mut number = 0;
         loop {
-            match self.along(among, shard, &mut number, wanted, known, watch)? {
+            match self.turn_in_shard(among, deal, wanted, known, watch)? {
                 Turn::Found => return Ok(true),
                 Turn::Over => return Ok(false),
-                Turn::On => (),
+                Turn::On => {
+                    if !watch.tried(self.counts.tried) {
+                        return Err(Halt::Stopped);
+                    }
+                }
             }
         }
     }
 
-    /// Searches the branches of a shard that leave the trunk here, and goes on along the trunk. `number` is that of the
-    /// branches so far, without whole multiples of how many shards there are.
-    fn along<W: Watch>(
+    /// Takes a turn where no schedule is dealt out yet. Answers what that came to.
+    fn turn_in_shard<W: Watch>(
         &mut self,
         among: &[Event],
-        shard: Shard,
-        number: &mut u32,
+        deal: Deal,
         wanted: &Wanted,
         known: &mut Known,
         watch: &mut W,
     ) -> Result<Turn, Halt>
-        requires of { 0 < shard.of }
-        requires trunk { IsOnTrunk wanted.now self.old }
-        requires number { number.old < shard.of }
-        requires known { AreDone wanted.now among.now known.old }
-        ensures goes { IfOk result (GoesAlong wanted.now shard among.now self.old number.old self.new number.new) }
-        ensures number { number.new < shard.of }
-        ensures known { IfOk result (λ turn. KnowsAlong wanted.now among.now known.new turn) }
-        ensures halts { IfErr result (HaltsSo W.may_stop) }
-    {
-        let Some(first) = self.first_way(among)? else {
-            self.count()?;
-            return Ok(Turn::Over);
-        };
-        if self.search_branches(among, first, shard, number, wanted, known, watch)? {
-            return Ok(Turn::Found);
-        }
-        self.take(among[first])?;
-        if wanted.fails_at(&self.board, self.left)? {
-            return Ok(Turn::Found);
-        }
-        Ok(Turn::On)
-    }
-
-    /// Searches the branches of a shard that leave the trunk here. Answers whether something is found.
-    fn search_branches<W: Watch>(
-        &mut self,
-        among: &[Event],
-        first: usize,
-        shard: Shard,
-        number: &mut u32,
-        wanted: &Wanted,
-        known: &mut Known,
-        watch: &mut W,
-    ) -> Result<bool, Halt>
-        requires of { 0 < shard.of }
+        requires of { 0 < deal.shard.of }
         requires sized { IsSized self.old }
-        requires first { IsFirst among.now (place_of self.old) first }
-        requires number { number.old < shard.of }
         requires known { AreDone wanted.now among.now known.old }
-        ensures is { IfOk result (SearchesBranches wanted.now shard among.now self.old number.old self.new number.new) }
-        ensures number { number.new < shard.of }
-        ensures known { IfOk result (λ found. found ≡ false → AreDone wanted.now among.now known.new) }
+        ensures out { IfOk result (LeavesOutIn wanted.now deal among.now self.old self.new) }
+        ensures on { (from : Place) → IsOnPath among.now from self.old
+            → IfOk result (LeadsOn wanted.now among.now from self.new) }
+        ensures known { IfOk result (KnowsIn wanted.now among.now known.new) }
+        ensures falls { IfOk result (HasLess among.now self.old self.new) }
         ensures sized { IsSized self.new }
         ensures halts { IfErr result (HaltsSo W.may_stop) }
     {
-        for at in first + 1..among.len() {
-            if self.search_way(among, at, shard, number, wanted, known, watch)? {
-                return Ok(true);
+        match self.choice_in_shard(among, self.at, deal) {
+            Some(at) => self.go_on_in_shard(among, at, deal, wanted, known, watch),
+            None => {
+                self.count_for_all(among, deal.shard)?;
+                Ok(self.turn_from())
             }
         }
-        Ok(false)
     }
 
-    /// Searches the branch that leaves the trunk by an event, if that may come and the branch is one of the shard's.
-    /// Answers whether something is found.
-    fn search_way<W: Watch>(
+    /// Goes on by an event of the shard, where no schedule is dealt out yet. Answers what that came to.
+    fn go_on_in_shard<W: Watch>(
         &mut self,
         among: &[Event],
         at: usize,
-        shard: Shard,
-        number: &mut u32,
+        deal: Deal,
         wanted: &Wanted,
         known: &mut Known,
         watch: &mut W,
-    ) -> Result<bool, Halt>
-        requires of { 0 < shard.of }
+    ) -> Result<Turn, Halt>
+        requires of { 0 < deal.shard.of }
         requires sized { IsSized self.old }
-        requires within { at < length among.now }
-        requires number { number.old < shard.of }
         requires known { AreDone wanted.now among.now known.old }
-        ensures is { IfOk result (SearchesWay wanted.now shard among.now at self.old number.old self.new number.new) }
-        ensures number { number.new < shard.of }
-        ensures known { IfOk result (λ found. found ≡ false → AreDone wanted.now among.now known.new) }
+        requires within { (self.old.at ≤ at) × (at < length among.now) }
+        requires choice { is_choice deal (place_of self.old) (event_at among.now at) ≡ true }
+        requires before { AreOthers deal among.now (place_of self.old) self.old.at at }
+        ensures out { IfOk result (LeavesOutIn wanted.now deal among.now self.old self.new) }
+        ensures on { (from : Place) → IsOnPath among.now from self.old
+            → IfOk result (LeadsOn wanted.now among.now from self.new) }
+        ensures known { IfOk result (KnowsIn wanted.now among.now known.new) }
+        ensures falls { IfOk result (HasLess among.now self.old self.new) }
         ensures sized { IsSized self.new }
         ensures halts { IfErr result (HaltsSo W.may_stop) }
     {
-        if !self.comes(among[at])? {
-            return Ok(false);
+        if self.is_left_out(among, at, wanted) {
+            self.pass(among, at);
+            return Ok(Turn::On);
         }
-        if *number == shard.number && self.search_branch(among, at, wanted, known, watch)? {
-            return Ok(true);
+        if !self.try_in_shard(among, at, deal)? {
+            return Ok(Turn::On);
         }
-        *number = after(*number, shard.of);
-        Ok(false)
+        if !deal.is_dealt(self.left) {
+            let fails = wanted.fails_at(&self.board, self.left)?;
+            return Ok(if fails { Turn::Found } else { Turn::On });
+        }
+        if self.search_all(among, wanted, known, watch)? {
+            return Ok(Turn::Found);
+        }
+        Ok(self.turn_from())
     }
 
-    /// Searches the branch that leaves the trunk by an event that may come. Answers whether something is found.
-    fn search_branch<W: Watch>(
+    /// The index of the first event, from this one on, that may be chosen here.
+    fn choice_in_shard(&self, among: &[Event], from: usize, deal: Deal) -> Option<usize>
+        requires { 0 < deal.shard.of }
+        ensures some { IfSome result
+            (λ at. (from ≤ at) × (at < length among.now)
+            × (is_choice deal (place_of self.now) (event_at among.now at) ≡ true)
+            × AreOthers deal among.now (place_of self.now) from at) }
+        ensures none { IfNone result (AreOthers deal among.now (place_of self.now) from (length among.now)) }
+    {
+        for at in from..among.len() {
+            if self.is_choice(among[at], deal) {
+                return Some(at);
+            }
+        }
+        None
+    }
+
+    /// Whether something is left for an event, and it deals the schedule to no other shard.
+    fn is_choice(&self, event: Event, deal: Deal) -> bool
+        requires { 0 < deal.shard.of }
+        ensures { result ≡ is_choice deal (place_of self.now) event }
+    {
+        self.left.affords(self.last, event) && deal.goes_in(self.left.spent(self.last, event))
+    }
+
+    /// Tries an event here, for which something is left. Answers whether it has done something.
+    fn try_in_shard(&mut self, among: &[Event], at: usize, deal: Deal) -> Result<bool, NoMemory>
+        requires of { 0 < deal.shard.of }
+        requires sized { IsSized self.old }
+        requires within { at < length among.now }
+        ensures is { IfOk result (λ done. TriesIn deal among.now self.old at self.new done) }
+        ensures sized { IsSized self.new }
+    {
+        match self.choice_in_shard(among, at + 1, deal) {
+            Some(_) => self.try_one(among, at),
+            None => self.try_last(among, at),
+        }
+    }
+
+    /// Searches all schedules from here. Answers whether something is found.
+    fn search_all<W: Watch>(
         &mut self,
         among: &[Event],
-        at: usize,
         wanted: &Wanted,
         known: &mut Known,
         watch: &mut W,
     ) -> Result<bool, Halt>
         requires sized { IsSized self.old }
-        requires within { at < length among.now }
-        requires comes { may_come (place_of self.old) (event_at among.now at) ≡ true }
+        requires begins { (self.old.at ≡ 0) × (self.old.fresh ≡ true) }
         requires known { AreDone wanted.now among.now known.old }
-        ensures is { IfOk result (SearchesBranch wanted.now among.now at self.old self.new) }
+        ensures is { IfOk result (SearchesAll wanted.now among.now self.old self.new) }
         ensures known { IfOk result (λ found. found ≡ false → AreDone wanted.now among.now known.new) }
         ensures sized { IsSized self.new }
         ensures halts { IfErr result (HaltsSo W.may_stop) }
     {
         let mut branch = self.branch()?;
-        branch.take(among[at])?;
-        branch.wake();
         let found = branch.fails(among, wanted, known, watch)?;
         self.counts = branch.counts;
         if found {
@@ -234,32 +305,25 @@ impl Search {
         self.run(among, wanted, known, watch)
     }
 
-    /// Lets nobody sleep here.
-    fn wake(&mut self)
-        ensures place { place_of self.new ≡ place_of self.old }
-        ensures rest { (self.new.at ≡ self.old.at) × (self.new.fresh ≡ self.old.fresh)
-            × (self.new.path.items ≡ self.old.path.items) × (self.new.saved.items ≡ self.old.saved.items)
-            × (self.new.spare.items ≡ self.old.spare.items) }
-        ensures awake { self.new.asleep ≡ None }
-    {
-        self.asleep = None;
-    }
-
     /// A search that begins here.
-    fn branch(&self) -> Result<Search, NoMemory>
-        ensures place { IfOk result (λ s. place_of s ≡ place_of self.now) }
-        ensures path { IfOk result (λ s. s.path.items ≡ self.now.path.items) }
+    fn branch(&mut self) -> Result<Search, NoMemory>
+        requires sized { IsSized self.old }
+        requires begins { (self.old.at ≡ 0) × (self.old.fresh ≡ true) }
+        ensures spot { IfOk result (λ s. spot_of s ≡ spot_of self.old) }
+        ensures path { IfOk result (λ s. s.path.items ≡ self.old.path.items) }
         ensures begins { IfOk result BeginsHere }
-        ensures sized { IfOk result IsSized }
+        ensures own { IfOk result IsSized }
+        ensures rest { IsSame self.old self.new }
+        ensures sized { IsSized self.new }
     {
         let alloc = *self.path.allocator();
         let path = Vec::from_slice(alloc, self.path.as_slice())?;
-        let board = self.board.try_copy()?;
+        let board = self.copy()?;
         Ok(Search {
             board,
             left: self.left,
             last: self.last,
-            asleep: None,
+            asleep: self.asleep,
             at: 0,
             fresh: true,
             path,
@@ -269,17 +333,38 @@ impl Search {
         })
     }
 
-    /// The index of the first event that may come here.
-    fn first_way(&self, among: &[Event]) -> Result<Option<usize>, NoMemory>
-        ensures some { IfOk result (λ found. IfSome found (IsFirst among.now (place_of self.now))) }
-        ensures none { IfOk result (λ found. IfNone found (ways among.now (place_of self.now) (length among.now) ≡ 0)) }
+    /// Goes back to the place that was saved last. Answers what that came to.
+    fn turn_from(&mut self) -> Turn
+        requires { IsSized self.old }
+        ensures is { Leaves self.old self.new result }
+        ensures sized { IsSized self.new }
+    {
+        if self.go_back() { Turn::On } else { Turn::Over }
+    }
+
+    /// Counts the schedule that has led here if nothing may come here. It is in every shard, and the first one counts it.
+    fn count_for_all(&mut self, among: &[Event], shard: Shard) -> Result<(), NoMemory>
+        requires { IsSized self.old }
+        ensures rest { IsSame self.old self.new }
+        ensures sized { IsSized self.new }
+    {
+        if shard.number == 0 && self.fresh && !self.some_come(among)? {
+            self.count()?;
+        }
+        Ok(())
+    }
+
+    /// Whether one of some events may come here.
+    fn some_come(&self, among: &[Event]) -> Result<bool, NoMemory>
+        ensures none { IfOk result (λ some. some ≡ false → (k : ℕ) → k < length among.now →
+            may_come (place_of self.now) (event_at among.now k) ≡ false) }
     {
         for at in 0..among.len() {
             if self.comes(among[at])? {
-                return Ok(Some(at));
+                return Ok(true);
             }
         }
-        Ok(None)
+        Ok(false)
     }
 
     /// Whether an event may come here.
@@ -292,13 +377,4 @@ impl Search {
         let mut copy = self.board.try_copy()?;
         Ok(!did_nothing(copy.event_apart(event)))
     }
-}
-
-/// The number after one, without whole multiples of how many there are.
-fn after(number: u32, of: u32) -> u32
-    requires { number < of }
-    ensures is { result ≡ (number + 1) % of }
-    ensures below { result < of }
-{
-    if number + 1 == of { 0 } else { number + 1 }
 }

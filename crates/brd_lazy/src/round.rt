@@ -68,7 +68,7 @@ pub(crate) fn visit_all<T: Threads + Sync, W: Watch>(
         if at >= most || spots.weight() > room {
             return Ok(Round::Unknown(Unknown::Places));
         }
-        if !watch.tried(at as u64) {
+        if !watch.gone_through(at as u64) {
             return Err(Halt::Stopped);
         }
         let upto = behind(at, spots.len().min(most), threads);

@@ -122,7 +122,7 @@ fn visit_all<W: Watch>(
         if at >= spots.len() {
             return Ok(Round::Holds);
         }
-        if !watch.tried(at as u64) {
+        if !watch.gone_through(at as u64) {
             return Err(Halt::Stopped);
         }
         match visit(spots, counts, at, words, among, regions, wanted, seats)? {

@@ -15,6 +15,9 @@ pub trait Progress {
     /// So many schedules of a search were tried. What doesn't say otherwise does nothing then.
     fn tried(&mut self, _schedules: u64) {}
 
+    /// A search has gone through so many places. What doesn't say otherwise does nothing then.
+    fn gone_through(&mut self, _places: u64) {}
+
     /// Whether work that may end early is to end now, with what is done so far. What doesn't say otherwise never asks
     /// for that.
     fn is_asked_to_stop(&mut self) -> bool {

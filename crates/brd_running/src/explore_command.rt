@@ -515,14 +515,23 @@ fn joined(alloc: Global, front: &[u8], rest: &[u8]) -> Result<Vec<u8>, NoMemory>
     Ok(text)
 }
 
-/// How many schedules are tried before it is told anew how many were tried (own choice).
+/// How many schedules are tried, or places gone through, before it is told anew how many (own choice).
 const PIECE: u64 = 256;
 
-/// What tells a progress how many schedules a search has tried.
+/// Whether it is time to tell how many there are, where so many were told last. They are told then.
+fn is_told(told: &mut u64, count: u64) -> bool {
+    if count / PIECE == *told / PIECE {
+        return false;
+    }
+    *told = count;
+    true
+}
+
+/// What tells a progress how far a search is.
 #[derive(Drop)]
 struct Searching<'a, P> {
     progress: &'a mut P,
-    /// How many were tried when it was told last.
+    /// How many schedules or places were told last.
     told: u64,
 }
 
@@ -539,9 +548,15 @@ impl<'a, P: Progress> Watch for Searching<'a, P> {
     ghost may_stop = { false };
 
     fn tried(&mut self, schedules: u64) -> bool {
-        if schedules / PIECE != self.told / PIECE {
-            self.told = schedules;
+        if is_told(&mut self.told, schedules) {
             self.progress.tried(schedules);
+        }
+        true
+    }
+
+    fn gone_through(&mut self, places: u64) -> bool {
+        if is_told(&mut self.told, places) {
+            self.progress.gone_through(places);
         }
         true
     }
@@ -554,7 +569,7 @@ const TURNS: u32 = 128;
 #[derive(Drop)]
 struct Timed<'a, P> {
     progress: &'a mut P,
-    /// How many were tried when it was told last.
+    /// How many schedules or places were told last.
     told: u64,
     /// How many seconds the search may take.
     seconds: u32,
@@ -572,6 +587,16 @@ impl<'a, P: Progress> Timed<'a, P> {
             turns: TURNS,
         }
     }
+
+    /// Whether its time isn't over, which is asked anew after some turns.
+    fn has_time(&mut self) -> bool {
+        if self.turns > 0 {
+            self.turns -= 1;
+            return true;
+        }
+        self.turns = TURNS;
+        !self.progress.is_over(self.seconds)
+    }
 }
 
 impl<'a, P: Progress> Watch for Timed<'a, P> {
@@ -580,15 +605,16 @@ impl<'a, P: Progress> Watch for Timed<'a, P> {
     ghost may_stop = { true };
 
     fn tried(&mut self, schedules: u64) -> bool {
-        if schedules / PIECE != self.told / PIECE {
-            self.told = schedules;
+        if is_told(&mut self.told, schedules) {
             self.progress.tried(schedules);
         }
-        if self.turns > 0 {
-            self.turns -= 1;
-            return true;
+        self.has_time()
+    }
+
+    fn gone_through(&mut self, places: u64) -> bool {
+        if is_told(&mut self.told, places) {
+            self.progress.gone_through(places);
         }
-        self.turns = TURNS;
-        !self.progress.is_over(self.seconds)
+        self.has_time()
     }
 }

@@ -23,7 +23,7 @@ pub record AreNotMore (few many : Bounds) : Type 0 where
 
 -- no schedule of the plan's shard within bounds fails
 abbrev pub NoneWhole : Plan → BoardState → Bounds → Type 0
-NoneWhole plan b bounds = NoneFailsInShard plan.wanted plan.shard plan.among (start b bounds) 0
+NoneWhole plan b bounds = NoneFailsInShard plan.wanted plan.shard plan.among (start b bounds)
 
 -- none within bounds fails; or if there are regions, none that keeps to them
 abbrev pub NoneIn : List Region → Plan → BoardState → Bounds → Type 0

@@ -13,7 +13,7 @@ use brd_base::NoMemory;
 use brd_board::{Board, Event};
 use brd_crew::find_by_threads;
 use brd_explore::{Bounds, Counts, Found, Halt, Watch};
-use brd_lazy::{Gone, Lazily, Stops, find_lazily};
+use brd_lazy::{Gone, Lazily, find_lazily};
 use brd_only::{Inside, find_inside};
 use brd_reach::Unknown;
 use std::alloc::Global;
@@ -349,7 +349,7 @@ fn within_lazily<T: Threads + Sync, W: Watch>(
         Lazily::Found(events) => Ok(Ok(Searched {
             schedule: Some(events),
             bounds,
-            counts: counts_of(NOWHERE),
+            counts: UNTOLD,
             lazily: true,
         })),
         Lazily::NoneFails(gone) => Ok(Ok(Searched {
@@ -376,17 +376,6 @@ fn threads_of<T: Threads>(rt: &T, asked: u32) -> u32 {
 
 /// As how many threads visit places at most if it isn't said how many (own choice).
 const MOST_THREADS: u32 = 64;
-
-/// What stands for the places where one fails: they aren't told.
-const NOWHERE: Gone = Gone {
-    places: 0,
-    stops: Stops {
-        ends: 0,
-        out_of_events: 0,
-        out_of_ticks: 0,
-    },
-    spare: 0,
-};
 
 /// Places that were gone through, as schedules are counted.
 fn counts_of(gone: Gone) -> Counts {

@@ -501,9 +501,9 @@ fn races_are_found(rt: HostRuntime) -> Result<(), Fail> {
     none_wrong(first_wrong(rt.alloc()))
 }
 
-/// What is told of the searches of all shards: that one fails, or none of so many, of which each shard has the trunk's.
+/// What is told of the searches of all shards: that one fails, or none of so many.
 fn search_of_shards(alloc: Global, board: &Board, case: &Case, of: u32) -> Told {
-    let mut all = Told::NoneOf(1);
+    let mut all = Told::NoneOf(0);
     for number in 0..of {
         all = together(
             all,
@@ -516,9 +516,7 @@ fn search_of_shards(alloc: Global, board: &Board, case: &Case, of: u32) -> Told 
 /// What is told of a search and of the next one.
 fn together(all: Told, next: Told) -> Told {
     match (all, next) {
-        (Told::NoneOf(tried), Told::NoneOf(more)) => {
-            Told::NoneOf(tried.saturating_add(more).saturating_sub(1))
-        }
+        (Told::NoneOf(tried), Told::NoneOf(more)) => Told::NoneOf(tried.saturating_add(more)),
         (Told::Fails, Told::NoneOf(_)) => Told::Fails,
         _ => next,
     }
@@ -547,14 +545,14 @@ fn search_of_shard(alloc: Global, board: &Board, case: &Case, shard: Shard, reme
     }
 }
 
-/// Whether several shards of a case come together to what one does, and the whole search to no more: it lets who sleeps
-/// where a branch leaves the trunk sleep on.
+/// Whether several shards of a case come together to what the whole search does.
 fn goes_well_in_shards(alloc: Global, case: &Case) -> bool {
     match build(alloc, case.source.as_bytes(), case.config.as_bytes()) {
         Ok(board) => {
-            let one = search_of_shards(alloc, &board, case, 1);
-            search_of_shards(alloc, &board, case, 3) == one
-                && is_no_more(search_of(alloc, &board, case, 0), one)
+            let whole = search_of(alloc, &board, case, 0);
+            search_of_shards(alloc, &board, case, 1) == whole
+                && search_of_shards(alloc, &board, case, 3) == whole
+                && search_of_shards(alloc, &board, case, 16) == whole
         }
         Err(_) => false,
     }

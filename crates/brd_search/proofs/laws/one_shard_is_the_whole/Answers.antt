@@ -8,6 +8,6 @@ use Rattle.brd_search.proofs.laws.one_shard_is_the_whole.Goals as goal
 pub returns : goal.returns
 returns c = λ plan b bounds is whole none.
     c.shards_are_the_whole.ensures 1 (omega arith) plan.wanted plan.among (start b bounds)
-    (λ shard of below. subst (λ s. NoneFailsInShard plan.wanted s plan.among (start b bounds) 0)
+    (λ shard of below. subst (λ s. NoneFailsInShard plan.wanted s plan.among (start b bounds))
     (one_shard plan.shard shard is of below)
     (subst (λ only. NoneIn only plan b bounds) whole none))
