@@ -1,5 +1,5 @@
 -- What the turns of a search come to.
-use Rattle.std.proofs.Common.{◌≡◌, ℕ, List, [], ◌∷◌, ◌++◌, take, sym, ap, subst, ◌∙◌, arith, inl, inr}
+use Rattle.std.proofs.Common.{◌≡◌, ℕ, List, [], ◌∷◌, ◌++◌, take, sym, ap, subst, ◌∙◌, arith}
 use Rattle.std.specs.Prelude.{Bool, true, false, All, Option, None}
 use Rattle.std.proofs.lemmas.Bool.{false≢true}
 use Rattle.std.proofs.lemmas.List.Elements.{All-push}
@@ -9,7 +9,7 @@ use Rattle.brd_explore.specs.declared.search.Saved.{Saved}
 use Rattle.brd_explore.specs.declared.wanted.Wanted.{Wanted}
 use Rattle.brd_explore.specs.Schedules.{Place}
 use Rattle.brd_explore.specs.Failures.{fails_at}
-use Rattle.brd_explore.specs.Searching.{place_of, place_of_saved, spot_of, NoneLeft, NoneFails, NoneGoes, Leads, AreOnPath, IsOnPath, AreAlike, IsSized, Takes, TriesOr, KeepsOr, HasGoneOr, HasStayed, HasGoneBack, LeavesOut, LeadsOn, Finds, Answers, ended_by}
+use Rattle.brd_explore.specs.Searching.{place_of, place_of_saved, spot_of, NoneLeft, NoneFails, NoneGoes, Leads, AreOnPath, IsOnPath, AreAlike, IsSized, Takes, TriesOr, HasGoneOr, HasStayed, HasGoneBack, LeavesOut, LeadsOn, Finds, Answers, ended_by}
 use Rattle.brd_explore.specs.Sleeping.{awake}
 use Rattle.brd_explore.proofs.AwakeLemmas.{none-awake}
 use Rattle.brd_explore.proofs.SizeLemmas.{alike-after}
@@ -29,27 +29,9 @@ pub gone-of : {Else : Type 0} (among : List Event) (s t : Search) (at : ℕ) (do
 gone-of among s t at true is tries = tries
 gone-of among s t at false is tries = absurd (false≢true is)
 
-pub stayed-of : {Else : Type 0} (among : List Event) (s t : Search) (at : ℕ) (done : Bool) → done ≡ false → TriesOr Else among s at t done → HasStayed among s at t
-stayed-of among s t at true is tries = absurd (false≢true (sym is))
-stayed-of among s t at false is tries = tries
-
--- what is so of the events of later indices, if the place wasn't saved
-
-or-else : (A B : Type 0) → (A → B) → (s t : Search) (at : ℕ) → KeepsOr A s at t → KeepsOr B s at t
-or-else A B so s t at (inl same) = inl (same.0, so same.1)
-or-else A B so s t at (inr more) = inr more
-
-pub tries-as : (A B : Type 0) → (A → B) → (among : List Event) (s t : Search) (at : ℕ) (done : Bool) → TriesOr A among s at t done → TriesOr B among s at t done
-tries-as A B so among s t at true gone = record {
-  did = gone.did;
-  place = gone.place;
-  asleep = gone.asleep;
-  at = gone.at;
-  fresh = gone.fresh;
-  path = gone.path;
-  saved = or-else A B so s t at gone.saved;
-}
-tries-as A B so among s t at false stayed = stayed
+pub stayed-of : (Else : Type 0) (among : List Event) (s t : Search) (at : ℕ) (done : Bool) → done ≡ false → TriesOr Else among s at t done → HasStayed among s at t
+stayed-of Else among s t at true is tries = absurd (false≢true (sym is))
+stayed-of Else among s t at false is tries = tries
 
 -- a schedule was counted before going back
 pub back-same : (s t u : Search) → t.saved.items ≡ s.saved.items → t.path.items ≡ s.path.items → HasGoneBack t u → HasGoneBack s u

@@ -506,6 +506,25 @@ impl Search {
         path
     }
 
+    /// Its board.
+    pub(crate) fn into_board(self) -> Board
+        ensures { result ≡ self.board }
+    {
+        let Search {
+            board,
+            left: _,
+            last: _,
+            asleep: _,
+            at: _,
+            fresh: _,
+            path: _,
+            saved: _,
+            spare: _,
+            counts: _,
+        } = self;
+        board
+    }
+
     /// What it came to, and how many schedules it has tried.
     pub(crate) fn into_found(self, found: bool) -> Found
         ensures { Finds self found (option_map (λ events. events.items) result.schedule) }

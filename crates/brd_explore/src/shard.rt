@@ -21,7 +21,6 @@ ghost use Rattle.brd_explore.specs.Sharing.{
   NoneLeftIn,
   SearchesAll,
   SearchesFrom,
-  SearchesShard,
   TriesIn,
   goes_in,
   is_choice,
@@ -276,8 +275,21 @@ impl Search {
         self.counts = branch.counts;
         if found {
             self.path = branch.into_path();
+        } else {
+            self.keep(branch.into_board());
         }
         Ok(found)
+    }
+
+    /// Keeps a board that is needed no more, if it can become that of another place.
+    fn keep(&mut self, board: Board)
+        requires { IsSized self.old }
+        ensures rest { IsSame self.old self.new }
+        ensures sized { IsSized self.new }
+    {
+        if self.board.is_alike(&board) {
+            let _ = self.spare.push(board);
+        }
     }
 
     /// Whether the board fails, or a search from here finds something.

@@ -22,12 +22,12 @@ returns-then-is_left_out-clause-falls c = less-passed c.args.among.now c.args.se
 
 pub returns-then-not-branch-clause-known : goal.returns-then-not-branch-clause-known
 returns-then-not-branch-clause-known c = knows-stayed c.args.wanted.now c.args.among.now c.args.self.now c.try_event.new.self c.args.known.now c.args.at c.requires.within.0 c.requires.before
-    (stayed-of c.args.among.now c.args.self.now c.try_event.new.self c.args.at c.in_ok-try_event.field-0 c.if-not-branch.true c.in_ok-try_event.ensures.is)
+    (stayed-of _ c.args.among.now c.args.self.now c.try_event.new.self c.args.at c.in_ok-try_event.field-0 c.if-not-branch.true c.in_ok-try_event.ensures.is)
     c.requires.known
 
 pub returns-then-not-branch-clause-falls : goal.returns-then-not-branch-clause-falls
 returns-then-not-branch-clause-falls c = less-stayed c.args.among.now c.args.self.now c.try_event.new.self c.args.at c.requires.within.0 c.requires.within.1 c.requires.left
-    (stayed-of c.args.among.now c.args.self.now c.try_event.new.self c.args.at c.in_ok-try_event.field-0 c.if-not-branch.true c.in_ok-try_event.ensures.is)
+    (stayed-of _ c.args.among.now c.args.self.now c.try_event.new.self c.args.at c.in_ok-try_event.field-0 c.if-not-branch.true c.in_ok-try_event.ensures.is)
 
 pub returns-then-branch-clause-on : goal.returns-then-branch-clause-on
 returns-then-branch-clause-on c = λ from on.
