@@ -54,7 +54,7 @@ pub record Begins (from : Place) (s : Search) : Type 0 where
   pub saved : s.saved.items ≡ []
   pub awake : s.asleep ≡ None
 
-begins-on : (among : List Event) (from : Place) (s : Search) → Begins from s → IsOnPath among from s
+pub begins-on : (among : List Event) (from : Place) (s : Search) → Begins from s → IsOnPath among from s
 begins-on among from s begins = record {
   here = subst (λ es. Leads among from es (place_of s)) (sym begins.path) (sym begins.place);
   saved = subst (AreOnPath among from s.path.items 0) (sym begins.saved) (omega arith);

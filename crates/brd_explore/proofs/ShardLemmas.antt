@@ -1,6 +1,6 @@
 -- The schedules of a shard, and the shards together.
 use Rattle.std.proofs.Common.{◌≡◌, ℕ, ◌+◌, ◌%◌, ◌<◌, ◌≤◌, List, [], ◌∷◌, ◌++◌, length, get_or, Vec, Global, refl, sym, ap, subst, ◌∙◌, arith, inl, inr}
-use Rattle.std.specs.Prelude.{Bool, true, false, not, ◌==◌, ◌&&◌, ◌||◌, All, Option, Some, None, option_map, Result, Ok, Err, IfOk}
+use Rattle.std.specs.Prelude.{Bool, true, false, not, ◌==◌, ◌&&◌, ◌||◌, All, Option, Some, None, option_map, if◌then◌else◌, Result, Ok, Err, IfOk}
 use Rattle.std.proofs.lemmas.Bool.{cases_lt, cases_Bool, and_parts, false≢true}
 use Rattle.std.proofs.lemmas.Bool.Decides.{nat_tests}
 use Rattle.std.proofs.lemmas.List.{get_or_default}
@@ -11,7 +11,6 @@ use Rattle.brd_board.specs.declared.event.Event.TheVariants.{Tick}
 use Rattle.brd_board.specs.declared.event.Report.{Report}
 use Rattle.brd_board.specs.Board.{BoardState, Happened, happens}
 use Rattle.brd_journal.specs.Still.{did_nothing}
-use Rattle.brd_explore.specs.declared.bounds.Bounds.{Bounds}
 use Rattle.brd_explore.specs.declared.shard.Deal.{Deal}
 use Rattle.brd_explore.specs.declared.shard.Shard.{Shard}
 use Rattle.brd_explore.specs.declared.search.Found.{Found}
@@ -22,7 +21,7 @@ use Rattle.brd_explore.specs.declared.search.Turn.TheVariants as turn
 use Rattle.brd_explore.specs.declared.wanted.Wanted.{Wanted}
 use Rattle.brd_explore.specs.Schedules.{Place, does, is_left, next, event_at}
 use Rattle.brd_explore.specs.Failures.{fails_at}
-use Rattle.brd_explore.specs.Searching.{Answers, FailsAt, IsFound, NoneFails, NoneGoes, NoneLeft, LeadsAwake, Leads, AreOnPath, IsOnPath, IsSame, KeepsOr, HasGoneOr, HasStayed, HasPassed, HasGoneBack, LeavesOut, LeadsOn, Finds, HasLess, turns_left, ended_by, place_of, spot_of, spot_of_saved}
+use Rattle.brd_explore.specs.Searching.{Answers, FailsAt, IsFound, NoneFails, NoneGoes, Leads, AreOnPath, IsOnPath, IsSame, IsSized, AreAlike, KeepsOr, HasGoneOr, HasStayed, HasPassed, HasGoneBack, LeavesOut, LeadsOn, Finds, HasLess, most_saved, most_turns, turns_left, ended_by, place_of, spot_of, spot_of_saved}
 use Rattle.brd_explore.specs.Knowing.{Leaves}
 use Rattle.brd_explore.specs.Shards.{is_dealt, undealt, IsInShard, NoneFailsInShard, AnswersInShard}
 use Rattle.brd_explore.specs.Sharing.{AreOthers, BeginsHere, LeavesOutIn, NoneDealt, NoneDealtBy, NoneDealtFrom, NoneLeftIn, PathFails, SearchesAll, SearchesFrom, goes_in, is_choice, may_come}
@@ -33,6 +32,7 @@ use Rattle.brd_explore.proofs.FindLemmas.{Begins, begins-on}
 use Rattle.brd_explore.proofs.KnownLemmas.{leaves-same, leads-left, less-left, less-both}
 use Rattle.brd_explore.proofs.PathLemmas.{leads-after, leads-within}
 use Rattle.brd_explore.proofs.SearchLemmas.{none-from}
+use Rattle.brd_explore.proofs.SizeLemmas.{alike-back, pushed, sized-moved}
 
 -- the code reads events at another default
 pub read-event : (among : List Event) (at : ℕ) (d : Event) → at < length among → get_or among at d ≡ event_at among at
@@ -310,6 +310,18 @@ pub all-none : (wanted : Wanted) (among : List Event) (s b t u : Search) (found 
 all-none wanted among s b t u true is spot searched same = absurd (false≢true (sym is))
 all-none wanted among s b t u false is spot searched same = (same, subst (NoneGoes wanted among) spot searched)
 
+-- a board that is kept for another place
+pub sized-kept : (s t : Search) (b : BoardState) (done : Bool) → IsSized s → AreAlike s.board b → t.board ≡ s.board →
+    t.saved.items ≡ s.saved.items → t.spare.items ≡ (if done then s.spare.items ++ b ∷ [] else s.spare.items) → IsSized t
+sized-kept s t b done sized alike same saved spare =
+    let moved : IsSized (record t { spare = s.spare }) = sized-moved s (record t { spare = s.spare }) sized
+    (subst (AreAlike s.board) (sym same) (record { size = refl; order = refl })) saved refl in
+    record {
+      saved = moved.saved;
+      spare = pushed (λ x. AreAlike x t.board) s.spare.items t.spare.items b done spare moved.spare
+          (subst (AreAlike b) (sym same) (alike-back s.board b alike));
+    }
+
 -- what it came to
 
 pub all-fails : (wanted : Wanted) (among : List Event) (s t : Search) (found : Bool) → found ≡ true → SearchesAll wanted among s t found → PathFails wanted among s t
@@ -332,7 +344,10 @@ pub leads-same : (wanted : Wanted) (among : List Event) (from : Place) (s t u : 
 leads-same wanted among from s t u end same leaves on = leads-left wanted among from t u end leaves (same-on among from s t same on)
 
 same-turns : (among : List Event) (s t : Search) → IsSame s t → turns_left among s ≡ turns_left among t
-same-turns among s t same = cc
+same-turns among s t same =
+    let here : most_turns (length among) s.left.events s.at ≡ most_turns (length among) t.left.events t.at =
+    ap (λ (p : Place). most_turns (length among) p.left.events s.at) (sym same.place) ∙ ap (most_turns (length among) t.left.events) (sym same.at) in
+    omega (arith, here, ap (most_saved (length among)) same.saved)
 
 pub less-searched : (among : List Event) (s t u v : Search) (end : Turn) → turns_left among t < turns_left among s → IsSame t u → Leaves u v end →
     HasLess among s v end

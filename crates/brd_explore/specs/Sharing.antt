@@ -1,6 +1,6 @@
 -- What the search of a shard does before a schedule is dealt out. (Contracts of private functions alone name this.)
 use Rattle.std.specs.Prelude.{◌≡◌, ℕ, ◌+◌, ◌%◌, ◌==◌, ◌≤◌, ◌<◌, Bool, true, false, not, ◌&&◌, ◌||◌, List, [], ◌∷◌}
-use Rattle.std.specs.Prelude.{length, All, None}
+use Rattle.std.specs.Prelude.{length, All}
 use Rattle.brd_board.specs.declared.event.Event.{Event}
 use Rattle.brd_explore.specs.declared.bounds.Bounds.{Bounds}
 use Rattle.brd_explore.specs.declared.search.Search.{Search}
@@ -9,8 +9,8 @@ use Rattle.brd_explore.specs.declared.search.Turn.TheVariants as turn
 use Rattle.brd_explore.specs.declared.shard.Deal.{Deal}
 use Rattle.brd_explore.specs.declared.wanted.Wanted.{Wanted}
 use Rattle.brd_explore.specs.Schedules.{Place, does, is_left, next, event_at}
-use Rattle.brd_explore.specs.Searching.{FailsAt, HasStayed, IsFound, IsOnPath, IsSame, LeadsAwake, NoneGoes, TriesOr}
-use Rattle.brd_explore.specs.Searching.{place_of, place_of_saved, spot_of, spot_of_saved}
+use Rattle.brd_explore.specs.Searching.{FailsAt, IsFound, IsOnPath, IsSame, LeadsAwake, NoneGoes, TriesOr}
+use Rattle.brd_explore.specs.Searching.{place_of, spot_of, spot_of_saved}
 use Rattle.brd_explore.specs.Shards.{is_dealt, IsInShard}
 use Rattle.brd_explore.specs.Sleeping.{Spot, is_left_out, next_spot}
 

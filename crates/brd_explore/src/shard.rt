@@ -1,7 +1,7 @@
 //! A search that several machines share: the schedules are dealt out to them by the second choice that costs.
 
 ghost use Rattle.std.specs.Prelude.{option_map, ◌≡◌, ◌≤◌, ◌<◌, ℕ, true, false, length, IfErr, IfOk, IfSome, IfNone};
-ghost use Rattle.brd_explore.specs.Schedules.{event_at, start};
+ghost use Rattle.brd_explore.specs.Schedules.{Place, event_at, start};
 ghost use Rattle.brd_explore.specs.Knowing.{AreDone, KnowsIn, Leaves};
 ghost use Rattle.brd_explore.specs.Searching.{
   HaltsSo,
@@ -12,6 +12,7 @@ ghost use Rattle.brd_explore.specs.Searching.{
   LeadsOn,
   ended_by,
   place_of,
+  spot_of,
 };
 ghost use Rattle.brd_explore.specs.Shards.{AnswersInShard, is_dealt, undealt};
 ghost use Rattle.brd_explore.specs.Sharing.{
