@@ -1,6 +1,6 @@
 //! Rounds: all places are visited, and those to which events lead from them.
 
-ghost use Rattle.std.specs.Prelude.{◌≡◌, ◌<◌, ◌≤◌, length, IfErr, IfOk};
+ghost use Rattle.std.specs.Prelude.{◌<◌, ◌≤◌, IfErr, IfOk};
 ghost use Rattle.brd_explore.specs.Searching.{HaltsSo};
 ghost use Rattle.brd_lazy.specs.Finding.{RoundSo};
 ghost use Rattle.brd_lazy.specs.Finds.{GoneSo};

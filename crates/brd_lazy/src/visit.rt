@@ -3,7 +3,7 @@
 ghost use Rattle.std.specs.Prelude.{◌≡◌, ◌<◌, suc, slice_get, IfOk, OnOk, Some, true, false};
 ghost use Rattle.brd_board.specs.declared.event.Event.TheVariants.{Step};
 ghost use Rattle.brd_board.specs.Board.{happens};
-ghost use Rattle.brd_explore.specs.Schedules.{Place as PlaceOf, does, next, is_left};
+ghost use Rattle.brd_explore.specs.Schedules.{Place as PlaceOf, does, next};
 ghost use Rattle.brd_lazy.specs.Blocks.{after_steps, end_of};
 ghost use Rattle.brd_lazy.specs.Finding.{HasTriedAll, TriedSo, VisitedSo};
 ghost use Rattle.brd_lazy.specs.Finds.{with_finds};

@@ -10,7 +10,7 @@ use Rattle.brd_board.specs.Board.{BoardState, Happened, happens}
 use Rattle.brd_journal.specs.Still.{did_nothing}
 use Rattle.brd_explore.specs.declared.bounds.Bounds.{Bounds}
 use Rattle.brd_explore.specs.Schedules.{Place, does, stepper, affords, affords_one, spent, is_left, next, place_after}
-use Rattle.brd_explore.specs.Schedules.{IsWithin}
+use Rattle.brd_explore.specs.Schedules.{IsAmong, IsWithin}
 use Rattle.brd_spots.specs.Playing.{IsPlayed}
 
 -- One list after the other.
@@ -60,6 +60,14 @@ next-is p event b left last board rest who = λ i. record {
   left = sym rest i;
   last = sym (who ∙ ap (λ z. stepper z p.last event) board) i;
 }
+
+-- An event is played, by what is known of the next place.
+pub played-so : (among : List Event) (p : Place) (event : Event) (b : BoardState) (left : Bounds) (last : Option ℕ) →
+    IsAmong among event → is_left p event ≡ true → does p.board event ≡ true → b ≡ (happens p.board event).board →
+    left ≡ spent p.left p.last event → last ≡ stepper b p.last event →
+    IsPlayed among p event (record { board = b; left = left; last = last })
+played-so among p event b left last one affords did board rest who =
+    record { one = one; left = affords; did = did; is = next-is p event b left last board rest who }
 
 -- A schedule that is played: it is within the bounds so far, and has led to a place.
 pub record HasPlayed (among : List Event) (from : Place) (events : List Event) (upto : ℕ) (p : Place) : Type 0 where

@@ -1,4 +1,4 @@
-use Rattle.std.proofs.Common.{◌≡◌, ◌≤◌, length, subst, arith}
+use Rattle.std.proofs.Common.{◌≤◌, length, subst, arith}
 use Rattle.brd_reach.specs.Rounds.{sharing_for}
 use Rattle.brd_spots.proofs.KnownLemmas.{more-then}
 use Rattle.brd_lazy.specs.Finds.{GoneSo}
