@@ -4,7 +4,7 @@ mod SearchLemmas
 mod PathLemmas
 mod FindLemmas
 mod CommuteLemmas
-mod RichLemmas
+pub mod RichLemmas
 mod AwakeLemmas
 mod EnoughLemmas
 mod PartLemmas

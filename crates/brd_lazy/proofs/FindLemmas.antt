@@ -1,8 +1,9 @@
 -- What a search through places has done makes a lazy tree of which no place fails.
-use Rattle.std.proofs.Common.{◌≡◌, ℕ, zero, suc, ◌+◌, ◌<◌, ◌≤◌, ◌⊎◌, inl, inr, Bool, true, List, [], ◌∷◌, ◌++◌, length, refl, sym, ap, subst, ◌∙◌, arith}
-use Rattle.std.specs.Prelude.{◌-◌, not, if◌then◌else◌, replicate, take, get_or, slice_get, Option, Some}
+use Rattle.std.proofs.Common.{◌≡◌, ℕ, zero, suc, ◌+◌, ◌<◌, ◌≤◌, ◌⊎◌, inl, inr, true, List, length, refl, sym, ap, subst}
+use Rattle.std.proofs.Common.{◌∙◌, arith}
+use Rattle.std.specs.Prelude.{◌-◌, not, if◌then◌else◌, replicate, get_or, Option}
 use Rattle.std.proofs.lemmas.Bool.{cases_Bool, false≢true}
-use Rattle.std.proofs.lemmas.List.{append_assoc, append-nil, take_more, take_all, get_or_default}
+use Rattle.std.proofs.lemmas.List.{get_or_default}
 use Rattle.std.proofs.lemmas.Option.{slice_get_within}
 use Rattle.brd_link.specs.LinkSet.{IsLinkSet}
 use Rattle.brd_exec.specs.declared.outcome.Outcome.{Outcome}
@@ -16,9 +17,9 @@ use Rattle.brd_board.specs.Board.{BoardState, Happened, with_executed, instructi
 use Rattle.brd_journal.specs.Still.{did_nothing}
 use Rattle.brd_explore.specs.declared.bounds.Bounds.{Bounds}
 use Rattle.brd_explore.specs.declared.wanted.Wanted.{Wanted}
-use Rattle.brd_explore.specs.Schedules.{Place, does, stepper, preempts, one_if, spent, is_left, next, place_after, event_at, IsAmong, IsWithin}
-use Rattle.brd_explore.specs.Failures.{fails_at}
-use Rattle.brd_explore.specs.Searching.{FailsAt, IsFound, NoneFails}
+use Rattle.brd_explore.specs.Schedules.{Place, does, stepper, preempts, one_if, spent, is_left, next, place_after}
+use Rattle.brd_explore.specs.Schedules.{event_at}
+use Rattle.brd_explore.specs.Searching.{NoneFails}
 use Rattle.brd_frames.specs.Agents.{Agent}
 use Rattle.brd_frames.specs.Going.{IsNext}
 use Rattle.brd_frames.specs.Lagging.{Sharing, IsInvisible}
@@ -29,20 +30,17 @@ use Rattle.brd_blocks.specs.Stepping.{IsHidden, IsVisible}
 use Rattle.brd_blocks.proofs.LinkLemmas.{stays-set}
 use Rattle.brd_reach.specs.Reaching.{Guards}
 use Rattle.brd_reach.proofs.WalkLemmas.{next-one, next-loud, after-more}
-use Rattle.brd_lazy.specs.declared.spots.Margin.{Margin}
-use Rattle.brd_lazy.specs.Spots.{spot_of}
+use Rattle.brd_spots.specs.declared.spots.Margin.{Margin}
+use Rattle.brd_spots.specs.Spots.{spot_of, IsIn, IsMore, IsKnown}
+use Rattle.brd_spots.proofs.KnownLemmas.{known-more, less-or-same}
 use Rattle.brd_lazy.specs.Blocks.{after_steps, end_of, AreHidden, IsBlock, MayCome}
 use Rattle.brd_lazy.specs.Trees.{IsCovered, IsLazyTree}
-use Rattle.brd_lazy.specs.Finding.{HasWalked, IsIn, IsMore, IsKnown, HasGone, HasTried, HaveTried, IsDone, AreDone}
+use Rattle.brd_lazy.specs.Finding.{HasWalked, HasGone, HasTried, HaveTried, IsDone, AreDone}
 use Rattle.brd_lazy.proofs.StepLemmas.{ends-at, hidden-more}
 use Rattle.brd_lazy.proofs.RoomLemmas.{some-events}
 use Rattle.brd_lazy.proofs.FollowLemmas.{none-fails}
-use Rattle.brd_lazy.proofs.ScheduleLemmas.{place-then, within-then, rich-same}
 
 -- Walks.
-
-pub walked-none : (by : Sharing) (b : BoardState) (cpu : ℕ) → IsLinkSet b.links → HasWalked by b cpu 0 b
-walked-none by b cpu set = record { hidden = λ k below. absurd (omega (arith, below)); is = refl; set = set }
 
 plus-one : (n : ℕ) → suc n ≡ n + 1
 plus-one n = omega arith
@@ -73,40 +71,6 @@ not-both by b cpu hidden visible =
 
 -- More places.
 
-get-more : (xs ys : List Place) (at : ℕ) (spot : Place) → slice_get xs at ≡ Some spot → slice_get (xs ++ ys) at ≡ Some spot
-get-more [] ys at spot is = let wrong : ⊥ = cc in absurd wrong
-get-more (x ∷ xs) ys zero spot is = is
-get-more (x ∷ xs) ys (suc at) spot is = get-more xs ys at spot is
-
-get-last : (xs : List Place) (spot : Place) → slice_get (xs ++ spot ∷ []) (length xs) ≡ Some spot
-get-last [] spot = refl
-get-last (x ∷ xs) spot = get-last xs spot
-
-pub more-same : (spots : List Place) → IsMore spots spots
-more-same spots = ([], sym (append-nil spots))
-
-pub more-then : (a b c : List Place) → IsMore a b → IsMore b c → IsMore a c
-more-then a b c one two = (one.0 ++ two.0, two.1 ∙ ap (λ xs. xs ++ two.0) one.1 ∙ append_assoc a one.0 two.0)
-
-pub more-by : (a b : List Place) (spot : Place) → b ≡ a ++ spot ∷ [] → IsMore a b
-more-by a b spot is = (spot ∷ [], is)
-
-pub spot-more : (old new : List Place) (at : ℕ) (spot : Place) → IsMore old new → slice_get old at ≡ Some spot → slice_get new at ≡ Some spot
-spot-more old new at spot more is = ap (λ xs. slice_get xs at) more.1 ∙ get-more old more.0 at spot is
-
-in-more : (old new : List Place) (p : Place) → IsMore old new → IsIn old p → IsIn new p
-in-more old new p more it = (it.0, spot-more old new it.0 p more it.1)
-
-pub known-more : (old new : List Place) (p : Place) → IsMore old new → IsKnown old p → IsKnown new p
-known-more old new p more it = record { place = it.place; there = in-more old new it.place more it.there; richer = it.richer }
-
-pub known-last : (old new : List Place) (spot : Place) → new ≡ old ++ spot ∷ [] → IsKnown new spot
-known-last old new spot is = record {
-  place = spot;
-  there = (length old, ap (λ xs. slice_get xs (length old)) is ∙ get-last old spot);
-  richer = rich-same spot;
-}
-
 pub gone-more : (by : Sharing) (old new : List Place) (p : Place) (cpu : ℕ) → IsMore old new → HasGone by old p cpu → HasGone by new p cpu
 gone-more by old new p cpu more (inl idle) = inl idle
 gone-more by old new p cpu more (inr (inl alone)) =
@@ -127,31 +91,6 @@ done-more by among wanted old new p more it = record {
   holds = it.holds;
   tried = λ set k less left. tried-more by old new p (event_at among k) more (it.tried set k less left);
 }
-
-pub there-is : (xs : List Place) (i : ℕ) → i < length xs → (spot : Place) × (slice_get xs i ≡ Some spot)
-there-is [] i less = absurd (omega (arith, less))
-there-is (x ∷ xs) zero less = (x, refl)
-there-is (x ∷ xs) (suc i) less = there-is xs i (omega (arith, less))
-
-same-some : (p q : Place) → Some p ≡ Some q → p ≡ q
-same-some p q is = cc
-
-less-or-same : (n m : ℕ) → n < m + 1 → (n < m) ⊎ (n ≡ m)
-less-or-same n m less = grind (arith, less)
-
-pub done-next : (by : Sharing) (among : List Event) (wanted : Wanted) (old new : List Place) (at : ℕ) (spot : Place) →
-    AreDone by among wanted old at → IsMore old new → slice_get old at ≡ Some spot → IsDone by among wanted new spot →
-    AreDone by among wanted new (at + 1)
-done-next by among wanted old new at spot done more here it k less s is =
-    elim (less-or-same k at less) [
-      | inl below ↦
-          let found = there-is old k (omega (arith, below, slice_get_within old at spot here)) in
-          subst (IsDone by among wanted new) (same-some found.0 s (sym (spot-more old new k found.0 more found.1) ∙ is))
-          (done-more by among wanted old new found.0 more (done k below found.0 found.1))
-      | inr same ↦
-          subst (IsDone by among wanted new)
-          (same-some spot s (sym (spot-more old new at spot more here) ∙ subst (λ n. slice_get new n ≡ Some s) same is)) it
-    ]
 
 -- The tree.
 
@@ -323,48 +262,6 @@ holds-so by among wanted spots p none guards known done set =
       holds = λ q it fails. false≢true (sym (done-at by among wanted spots q done it.0).holds ∙ fails);
     }) (good spots p set known)
 
--- A schedule that is followed event by event.
-
--- it is within the bounds so far, and has led to a place
-pub record HasFollowed (among : List Event) (from : Place) (events : List Event) (upto : ℕ) (p : Place) : Type 0 where
-  pub within : IsWithin among from (take upto events)
-  pub is : place_after from (take upto events) ≡ p
-  pub few : upto + p.left.events ≤ from.left.events
-
-fewer : (p : Place) (event : Event) → is_left p event ≡ true → suc (next p event).left.events ≤ p.left.events
-unfolding spent
-fewer p (Step cpu) left = omega (arith, some-events p (Step cpu) left)
-fewer p Tick left = omega (arith, some-events p Tick left)
-fewer p (Raise line) left = omega (arith, some-events p (Raise line) left)
-
-pub followed-none : (among : List Event) (from : Place) (events : List Event) → HasFollowed among from events 0 from
-followed-none among from events = record { within = tt; is = refl; few = omega arith }
-
-pub followed-more : (among : List Event) (from p : Place) (events : List Event) (upto : ℕ) (event : Event) → upto < length events →
-    get_or events upto event ≡ event → HasFollowed among from events upto p → IsAmong among event → is_left p event ≡ true →
-    does p.board event ≡ true → HasFollowed among from events (upto + 1) (next p event)
-followed-more among from p events upto event less here it one left did =
-    let more : take (upto + 1) events ≡ take upto events ++ event ∷ [] =
-    take_more events upto event less ∙ ap (λ e. take upto events ++ e ∷ []) here in
-    record {
-      within = subst (IsWithin among from) (sym more)
-          (within-then among from (take upto events) (event ∷ []) it.within
-          (subst (λ q. IsWithin among q (event ∷ [])) (sym it.is) ((λ does-it. (one, left, tt)), (λ none. tt))));
-      is = ap (place_after from) more ∙ place-then from (take upto events) (event ∷ []) ∙ ap (λ q. place_after q (event ∷ [])) it.is
-          ∙ ap (λ test. if test then next p event else p) did;
-      few = omega (arith, it.few, fewer p event left);
-    }
-
--- Whether an event does something, by its report.
-
-pub done-nothing : (b c : BoardState) (event : Event) (done : Happened) (nothing : Bool) → done ≡ happens c event → c ≡ b →
-    nothing ≡ did_nothing done.report → does b event ≡ not nothing
-unfolding does
-done-nothing b c event done nothing is same what =
-    ap (λ (x : BoardState). not (did_nothing (happens x event).report)) (sym same)
-    ∙ ap (λ (h : Happened). not (did_nothing h.report)) (sym is)
-    ∙ ap not (sym what)
-
 -- Where a walk of no step has come.
 pub walked-zero : (by : Sharing) (b middle : BoardState) (cpu n : ℕ) → HasWalked by b cpu n middle → n ≡ 0 → middle ≡ b
 walked-zero by b middle cpu n walked zero' = walked.is ∙ ap (after_steps b cpu) zero'
@@ -403,52 +300,6 @@ tried-next by among old new p i event more before here is within set k less left
           let there : event_at among k ≡ event = ap (event_at among) same ∙ sym (is ∙ get_or_default among i event Tick within) in
           subst (HasTried by new p) (sym there) (here (subst (λ e. is_left p e ≡ true) there left) set)
     ]
-
--- A schedule that is followed to the next place.
-
-next-is : (p : Place) (event : Event) (b : BoardState) (left : Bounds) (last : Option ℕ) → b ≡ (happens p.board event).board →
-    left ≡ spent p.left p.last event → last ≡ stepper b p.last event →
-    next p event ≡ record { board = b; left = left; last = last }
-next-is p event b left last board rest who = λ i. record {
-  board = sym board i;
-  left = sym rest i;
-  last = sym (who ∙ ap (λ z. stepper z p.last event) board) i;
-}
-
-pub followed-on : (among : List Event) (from p : Place) (events : List Event) (upto : ℕ) (event : Event) (b : BoardState) (left : Bounds)
-    (last : Option ℕ) → upto < length events → get_or events upto event ≡ event → HasFollowed among from events upto p → IsAmong among event →
-    is_left p event ≡ true → does p.board event ≡ true → b ≡ (happens p.board event).board → left ≡ spent p.left p.last event →
-    last ≡ stepper b p.last event → HasFollowed among from events (upto + 1) (record { board = b; left = left; last = last })
-followed-on among from p events upto event b left last less here it one affords did board rest who =
-    subst (HasFollowed among from events (upto + 1)) (next-is p event b left last board rest who)
-    (followed-more among from p events upto event less here it one affords did)
-
--- A schedule that was followed to its end, and fails there.
-pub found-so : (wanted : Wanted) (among : List Event) (from p : Place) (events : List Event) → HasFollowed among from events (length events) p →
-    fails_at wanted p.board p.left ≡ true → IsFound wanted among from events
-found-so wanted among from p events it fails =
-    let all : take (length events) events ≡ events = take_all (length events) events (omega arith) in
-    record {
-      within = subst (IsWithin among from) all it.within;
-      few = omega (arith, it.few);
-      fails = subst (λ es. FailsAt wanted (place_after from es)) all (subst (FailsAt wanted) (sym it.is) fails);
-    }
-
--- The first place.
-pub begins-known : (old new : List Place) (p : Place) → old ≡ p ∷ [] → IsMore old new → IsKnown new p
-begins-known old new p begins more = known-more old new p more (known-last [] old p begins)
-
--- The place of an index is the one of this board and this margin.
-pub here-is : (spots : List Place) (at : ℕ) (b : BoardState) (margin : Margin) → at < length spots →
-    ((p : Place) → slice_get spots at ≡ Some p → b ≡ p.board) →
-    ((p : Place) → slice_get spots at ≡ Some p → spot_of p.board margin ≡ p) → slice_get spots at ≡ Some (spot_of b margin)
-here-is spots at b margin within boards margins =
-    let found = there-is spots at within in
-    found.1 ∙ ap Some (sym (ap (λ c. spot_of c margin) (boards found.0 found.1) ∙ margins found.0 found.1))
-
--- It is within them.
-pub at-within : (spots : List Place) (at : ℕ) (p : Place) → slice_get spots at ≡ Some p → at < length spots
-at-within spots at p is = slice_get_within spots at p is
 
 -- The place after one event.
 pub one-is : (p : Place) (event : Event) (b : BoardState) (margin rest : Margin) → p ≡ spot_of p.board margin →

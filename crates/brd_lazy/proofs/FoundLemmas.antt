@@ -1,13 +1,11 @@
 -- What visits have found, added to the places.
 use Rattle.std.proofs.Common.{◌≡◌, ℕ, zero, suc, ◌+◌, ◌<◌, ◌≤◌, ◌⊎◌, inl, inr, true, false, List, [], ◌∷◌, ◌++◌, length, refl, sym, ap, subst, ◌∙◌, arith, length-append}
-use Rattle.std.specs.Prelude.{replicate, slice_get, Option, Some, None, Bool, Result, Ok, Err, OnOk, IfOk}
+use Rattle.std.specs.Prelude.{replicate, slice_get, Option, Some, None, Bool, Result, Ok, Err, IfOk}
 use Rattle.std.proofs.lemmas.List.{append_assoc, append-nil}
-use Rattle.std.proofs.lemmas.Option.{slice_get_within}
 use Rattle.std.proofs.lemmas.List.Elements.{All-head, All-tail, All-append}
 use Rattle.std.specs.List.{All}
 use Rattle.std.proofs.Common.{Vec, Global}
 use Rattle.brd_base.specs.declared.no_memory.NoMemory.{NoMemory}
-use Rattle.brd_link.specs.LinkSet.{IsLinkSet}
 use Rattle.brd_board.specs.declared.event.Event.{Event}
 use Rattle.brd_board.specs.declared.event.Event.TheVariants.{Step, Tick, Raise}
 use Rattle.brd_board.specs.Board.{BoardState, after}
@@ -15,19 +13,19 @@ use Rattle.brd_explore.specs.declared.wanted.Wanted.{Wanted}
 use Rattle.brd_explore.specs.Schedules.{Place, IsRicher, next, place_after, event_at}
 use Rattle.brd_explore.specs.Failures.{fails_at}
 use Rattle.brd_frames.specs.Lagging.{Sharing}
+use Rattle.brd_spots.specs.Spots.{spot_of, IsIn, IsKnown, IsMore}
+use Rattle.brd_spots.proofs.KnownLemmas.{known-last, known-more, less-or-same, rich-same, rich-then, same-some}
+use Rattle.brd_spots.proofs.KnownLemmas.{spot-more, there-is}
 use Rattle.brd_lazy.specs.declared.finds.Find.{Find}
-use Rattle.brd_lazy.specs.declared.spots.Margin.{Margin}
 use Rattle.brd_lazy.specs.declared.twins.Twin.{Twin}
 use Rattle.brd_lazy.specs.declared.part.Part.{Part}
 use Rattle.brd_lazy.specs.declared.visit.Tried.{Tried}
 use Rattle.brd_lazy.specs.declared.visit.Tried.TheVariants as tried
 use Rattle.brd_lazy.specs.declared.round.Round.{Round}
 use Rattle.brd_lazy.specs.declared.round.Round.TheVariants as round
-use Rattle.brd_lazy.specs.Spots.{spot_of}
-use Rattle.brd_lazy.specs.Finding.{AreDone, HasGone, HasTried, HasTriedAll, HaveTried, IsDone, IsIn, IsKnown, IsMore, VisitedSo}
+use Rattle.brd_lazy.specs.Finding.{AreDone, HasGone, HasTried, HasTriedAll, IsDone, VisitedSo}
 use Rattle.brd_lazy.specs.Finds.{AreGone, AreSettled, Covers, GoneSo, IsTwin, LeadAlike, PartSo, found_from, found_of, led_to, with_finds}
-use Rattle.brd_lazy.proofs.FindLemmas.{done-more, known-last, known-more, more-same, more-then, spot-more}
-use Rattle.brd_lazy.proofs.ScheduleLemmas.{rich-same}
+use Rattle.brd_lazy.proofs.FindLemmas.{done-more}
 
 -- One find more.
 
@@ -72,17 +70,6 @@ visited by among wanted seen p (Ok (tried.Unknown why)) holds it = tt
 visited by among wanted seen p (Err fault) holds it = tt
 
 -- What is known of places is known of others, if they are.
-
-rich-then : (a b c : Place) → IsRicher a b → IsRicher b c → IsRicher a c
-rich-then a b c one two = record {
-  board = one.board ∙ two.board;
-  last = one.last ∙ two.last;
-  events = omega (arith, one.events, two.events);
-  preemptions = omega (arith, one.preemptions, two.preemptions);
-  ticks = omega (arith, one.ticks, two.ticks);
-  raises = omega (arith, one.raises, two.raises);
-  owed = one.owed ∙ two.owed;
-}
 
 abbrev pub All-known : List Place → List Place → Type 0
 All-known seen spots = (q : Place) → IsIn seen q → IsKnown spots q
@@ -155,9 +142,6 @@ pub settled-more : (early : List Place) (finds : List Find) (upto : ℕ) (old ne
 settled-more early finds upto old new more settled k less find p is there =
     known-more old new (led_to find p) more (settled k less find p is there)
 
-less-or-same : (n m : ℕ) → n < m + 1 → (n < m) ⊎ (n ≡ m)
-less-or-same n m less = grind (arith, less)
-
 same-find : (a b : Find) → Some a ≡ Some b → a ≡ b
 same-find a b is = cc
 
@@ -213,14 +197,6 @@ gone-both by among wanted spots old new from middle upto more gone other at low 
       | inl below ↦ done-more by among wanted old new p more (gone at low below p is)
       | inr above ↦ other at above less p is
     ]
-
-same-some : (p q : Place) → Some p ≡ Some q → p ≡ q
-same-some p q is = cc
-
-there-is : (xs : List Place) (i : ℕ) → i < length xs → (spot : Place) × (slice_get xs i ≡ Some spot)
-there-is [] i less = absurd (omega (arith, less))
-there-is (x ∷ xs) zero less = (x, refl)
-there-is (x ∷ xs) (suc i) less = there-is xs i (omega (arith, less))
 
 -- The first places have been gone through, and more of those that were there by then.
 pub done-far : (by : Sharing) (among : List Event) (wanted : Wanted) (old new : List Place) (at upto : ℕ) → IsMore old new →

@@ -4,6 +4,5 @@ pub mod FollowLemmas
 pub mod ChargeLemmas
 pub mod ScheduleLemmas
 pub mod FindLemmas
-pub mod SpotLemmas
 pub mod FoundLemmas
 pub mod LoopLemmas

@@ -15,9 +15,6 @@ one-most : (x : Bool) → one_if x ≤ 1
 one-most true = omega arith
 one-most false = omega arith
 
-one-true : (x : Bool) → x ≡ true → one_if x ≡ 1
-one-true x is = ap one_if is
-
 between : (a b cpu : ℕ) → one_if (not (a == cpu)) ≤ one_if (not (a == b)) + one_if (not (b == cpu))
 between a b cpu = elim (cases_Bool (a == b)) [
   | inl same ↦

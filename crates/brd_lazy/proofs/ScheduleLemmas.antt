@@ -1,13 +1,16 @@
 -- The places to which lazy schedules lead are a tree.
-use Rattle.std.proofs.Common.{◌≡◌, ℕ, zero, suc, ◌<◌, inl, inr, true, false, List, [], ◌∷◌, ◌++◌, length, refl, sym, ap, subst, ◌∙◌, arith}
-use Rattle.std.specs.Prelude.{if◌then◌else◌, replicate}
-use Rattle.std.proofs.lemmas.Bool.{cases_Bool, false≢true}
+use Rattle.std.proofs.Common.{◌≡◌, ℕ, zero, suc, ◌<◌, true, false, List, [], ◌∷◌, ◌++◌, length, refl, sym, ap, subst}
+use Rattle.std.proofs.Common.{◌∙◌, arith}
+use Rattle.std.specs.Prelude.{replicate}
+use Rattle.std.proofs.lemmas.Bool.{false≢true}
 use Rattle.std.proofs.lemmas.List.{append_assoc, append-nil}
 use Rattle.brd_board.specs.declared.event.Event.{Event}
 use Rattle.brd_board.specs.declared.event.Event.TheVariants.{Step}
-use Rattle.brd_explore.specs.Schedules.{Place, IsRicher, does, preempts, one_if, spent, is_left, next, place_after, IsAmong, IsWithin}
+use Rattle.brd_explore.specs.Schedules.{Place, preempts, one_if, spent, is_left, next, place_after, IsAmong, IsWithin}
 use Rattle.brd_explore.specs.Searching.{FailsAt}
 use Rattle.brd_frames.specs.Lagging.{Sharing}
+use Rattle.brd_spots.proofs.KnownLemmas.{rich-same}
+use Rattle.brd_spots.proofs.PlayLemmas.{place-then, within-then}
 use Rattle.brd_lazy.specs.Blocks.{AreHidden, IsKept}
 use Rattle.brd_lazy.specs.Charges.{charge}
 use Rattle.brd_lazy.specs.Trees.{IsCovered, IsLazyTree}
@@ -18,31 +21,6 @@ use Rattle.brd_lazy.proofs.FollowLemmas.{Follows, begins, follows, fails-there}
 use Rattle.brd_lazy.proofs.ChargeLemmas.{IsSum, sums, no-more}
 
 -- One list after the other.
-
-pub place-then : (p : Place) (es more : List Event) → place_after p (es ++ more) ≡ place_after (place_after p es) more
-place-then p [] more = refl
-place-then p (e ∷ es) more = elim (cases_Bool (does p.board e)) [
-  | inl did ↦
-      subst (λ test. (if test then place_after (next p e) (es ++ more) else place_after p (es ++ more))
-      ≡ place_after (if test then place_after (next p e) es else place_after p es) more) (sym did) (place-then (next p e) es more)
-  | inr none ↦
-      subst (λ test. (if test then place_after (next p e) (es ++ more) else place_after p (es ++ more))
-      ≡ place_after (if test then place_after (next p e) es else place_after p es) more) (sym none) (place-then p es more)
-]
-
-pub within-then : (among : List Event) (p : Place) (es more : List Event) → IsWithin among p es → IsWithin among (place_after p es) more →
-    IsWithin among p (es ++ more)
-within-then among p [] more first second = second
-within-then among p (e ∷ es) more first second = (
-  (λ did. (
-    (first.0 did).0,
-    (first.0 did).1,
-    within-then among (next p e) es more (first.0 did).2
-        (subst (λ test. IsWithin among (if test then place_after (next p e) es else place_after p es) more) did second),
-  )),
-  (λ none. within-then among p es more (first.1 none)
-      (subst (λ test. IsWithin among (if test then place_after (next p e) es else place_after p es) more) none second)),
-)
 
 events-then : (moves : List Move) (move : Move) → all_events (moves ++ move ∷ []) ≡ all_events moves ++ events_of move
 events-then [] move = append-nil (events_of move)
@@ -107,17 +85,6 @@ block-within by among p cpu (suc n) one left room hidden =
       )),
       (λ none. absurd (false≢true (sym none ∙ hidden-does by p.board cpu first))),
     )
-
-pub rich-same : (p : Place) → IsRicher p p
-rich-same p = record {
-  board = refl;
-  last = refl;
-  events = omega arith;
-  preemptions = omega arith;
-  ticks = omega arith;
-  raises = omega arith;
-  owed = refl;
-}
 
 covered-by : (by : Sharing) (among : List Event) (p q : Place) → Leads by among p q → IsCovered (Leads by among p) q
 covered-by by among p q to = record { place = q; there = to; richer = rich-same q }

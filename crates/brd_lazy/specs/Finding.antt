@@ -1,5 +1,5 @@
 -- What a lazy search has done. (Contracts of private functions alone name this, but `FoundSo`.)
-use Rattle.std.specs.Prelude.{◌≡◌, ◌⊎◌, ℕ, suc, ◌<◌, ◌≤◌, true, false, List, ◌++◌, length, replicate, slice_get, Option}
+use Rattle.std.specs.Prelude.{◌≡◌, ◌⊎◌, ℕ, suc, ◌<◌, ◌≤◌, true, false, List, length, replicate, slice_get, Option}
 use Rattle.std.specs.Prelude.{Some, None}
 use Rattle.brd_link.specs.LinkSet.{IsLinkSet}
 use Rattle.brd_board.specs.declared.event.Event.{Event}
@@ -12,8 +12,8 @@ use Rattle.brd_explore.specs.Searching.{IsFound, NoneFails}
 use Rattle.brd_frames.specs.Lagging.{Sharing}
 use Rattle.brd_frames.specs.Reducing.{IsQuiet}
 use Rattle.brd_blocks.specs.Stepping.{AllStandWell}
+use Rattle.brd_spots.specs.Spots.{IsKnown}
 use Rattle.brd_lazy.specs.Blocks.{after_steps, AreHidden, IsBlock}
-use Rattle.brd_lazy.specs.Trees.{IsCovered}
 use Rattle.brd_lazy.specs.declared.block.Block.{Block}
 use Rattle.brd_lazy.specs.declared.block.Block.TheVariants as block
 use Rattle.brd_lazy.specs.declared.visit.Tried.{Tried}
@@ -50,20 +50,6 @@ WalkedTo by b cpu upto most new (Some came) = WentSo by b cpu most new came
 abbrev pub EndsWithin : ℕ → Block → Type 0
 EndsWithin most (block.Ends count) = count < most
 EndsWithin most _ = Unit {0}
-
--- Places.
-
--- a place is one of these
-abbrev pub IsIn : List Place → Place → Type 0
-IsIn spots p = (at : ℕ) × (slice_get spots at ≡ Some p)
-
--- there are no fewer than there were
-abbrev pub IsMore : List Place → List Place → Type 0
-IsMore old new = (more : List Place) × (new ≡ old ++ more)
-
--- one of these covers a place
-abbrev pub IsKnown : List Place → Place → Type 0
-IsKnown spots p = IsCovered (IsIn spots) p
 
 -- What was tried at a place.
 

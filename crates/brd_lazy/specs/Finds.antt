@@ -6,13 +6,13 @@ use Rattle.brd_board.specs.Board.{after}
 use Rattle.brd_explore.specs.declared.wanted.Wanted.{Wanted}
 use Rattle.brd_explore.specs.Schedules.{IsRicher, Place}
 use Rattle.brd_frames.specs.Lagging.{Sharing}
+use Rattle.brd_spots.specs.Spots.{spot_of, IsKnown}
 use Rattle.brd_lazy.specs.declared.finds.Find.{Find}
 use Rattle.brd_lazy.specs.declared.part.Part.{Part}
 use Rattle.brd_lazy.specs.declared.twins.Twin.{Twin}
 use Rattle.brd_lazy.specs.declared.round.Round.{Round}
 use Rattle.brd_lazy.specs.declared.round.Round.TheVariants as round
-use Rattle.brd_lazy.specs.Spots.{spot_of}
-use Rattle.brd_lazy.specs.Finding.{IsDone, IsKnown}
+use Rattle.brd_lazy.specs.Finding.{IsDone}
 
 -- the place to which a find leads from another one
 abbrev pub led_to : Find → Place → Place

@@ -2,6 +2,5 @@ pub mod Blocks
 pub mod Charges
 pub mod Trees
 pub mod Lazy
-pub mod Spots
 pub mod Finding
 pub mod Finds

@@ -118,8 +118,8 @@ fn go_far(
     Ok(Block::Unknown)
 }
 
-/// Lets a processor go on with a block until it has had so many instructions: what the block came to, if it ended or came
-/// back to the board that was kept.
+/// Lets a processor go on with a block until it has had so many instructions: what the block came to, if it ended or
+/// came back to the board that was kept.
 fn go_to(
     sharing: &Sharing,
     wanted: &Wanted,

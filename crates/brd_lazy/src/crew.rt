@@ -6,12 +6,11 @@ ghost use Rattle.brd_lazy.specs.Finds.{PartSo};
 ghost use Rattle.brd_reach.specs.Rounds.{sharing_for};
 
 use crate::part::{Part, visit_part};
-use crate::seats::Seats;
-use crate::spots::Spots;
 use brd_base::NoMemory;
 use brd_blocks::Sharing;
 use brd_board::Event;
 use brd_explore::Wanted;
+use brd_spots::{Seats, Spots};
 use std::alloc::Global;
 use std::thread::{Threads, map_indices};
 
@@ -29,7 +28,8 @@ pub(crate) fn visit_by_threads<T: Threads + Sync>(
     wanted: &Wanted,
 ) -> Result<Vec<Result<Part, NoMemory>>, NoMemory>
     ensures { IfOk result (λ parts.
-        All (λ part. IfOk part (PartSo (sharing_for sharing.now wanted.now) among.now wanted.now spots.now)) parts.items) }
+        All (λ part. IfOk part (PartSo (sharing_for sharing.now wanted.now) among.now wanted.now spots.now))
+        parts.items) }
 {
     let each = upto.saturating_sub(from).div_ceil(threads.max(1) as usize);
     let parts = map_indices(

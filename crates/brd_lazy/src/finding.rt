@@ -1,17 +1,17 @@
 //! The search: all places of a lazy tree, and a schedule that fails if one of them does.
 
-ghost use Rattle.std.specs.Prelude.{◌≡◌, IfErr, IfOk, true};
-ghost use Rattle.brd_explore.specs.Schedules.{IsAmong, start};
-ghost use Rattle.brd_explore.specs.Searching.{HaltsSo, IsFound};
+ghost use Rattle.std.specs.Prelude.{IfErr, IfOk};
+ghost use Rattle.brd_explore.specs.Schedules.{start};
+ghost use Rattle.brd_explore.specs.Searching.{HaltsSo};
 ghost use Rattle.brd_lazy.specs.Finding.{FoundSo};
 
 use crate::round::{Round, visit_all};
-use crate::spots::Spots;
 use crate::stops::Stops;
 use brd_base::NoMemory;
 use brd_board::{Board, Event};
-use brd_explore::{Bounds, Halt, Wanted, Watch, did_nothing, stepper};
+use brd_explore::{Bounds, Halt, Wanted, Watch};
 use brd_reach::{Unknown, guarded, learn, owned_words, ram_len};
+use brd_spots::{Spots, is_found};
 use std::alloc::Global;
 use std::thread::Threads;
 
@@ -41,8 +41,9 @@ pub enum Lazily {
 const MOST_ROUNDS: u32 = 10_000;
 
 /// Searches the schedules of a board within bounds, of which each event is one of these, for one that fails: by the
-/// lazy ones. It goes through so many places at most, which take so many bytes at most, about. Who watches is told through
-/// how many it has gone. So many threads of the host visit places, if there are many; what is found doesn't depend on that.
+/// lazy ones. It goes through so many places at most, which take so many bytes at most, about. Who watches is told
+/// through how many it has gone. So many threads of the host visit places, if there are many; what is found doesn't
+/// depend on that.
 pub fn find_lazily<T: Threads + Sync, W: Watch>(
     rt: &T,
     alloc: Global,
@@ -121,43 +122,4 @@ fn found(
         return Ok(Lazily::Found(events));
     }
     Ok(Lazily::Unknown(Unknown::Waits))
-}
-
-/// Whether these events are a schedule within the bounds that fails.
-fn is_found(
-    board: &Board,
-    bounds: Bounds,
-    among: &[Event],
-    wanted: &Wanted,
-    events: &[Event],
-) -> Result<bool, NoMemory>
-    ensures { IfOk result (λ found. found ≡ true → IsFound wanted.now among.now (start board.now bounds) events.now) }
-{
-    let mut there = board.try_copy()?;
-    let mut left = bounds;
-    let mut last = None;
-    for event in events {
-        if !is_among(among, *event) || !left.affords(last, *event) {
-            return Ok(false);
-        }
-        let rest = left.spent(last, *event);
-        if did_nothing(there.event_apart(*event)) {
-            return Ok(false);
-        }
-        left = rest;
-        last = stepper(&there, last, *event);
-    }
-    wanted.fails_at(&there, left)
-}
-
-/// Whether an event is one of these.
-fn is_among(among: &[Event], event: Event) -> bool
-    ensures { result ≡ true → IsAmong among.now event }
-{
-    for other in among {
-        if *other == event {
-            return true;
-        }
-    }
-    false
 }

@@ -3,13 +3,12 @@
 ghost use Rattle.std.specs.Prelude.{◌≡◌, replicate, slice_get, OnOk, Some};
 ghost use Rattle.brd_board.specs.Board.{after};
 ghost use Rattle.brd_explore.specs.Schedules.{Place as PlaceOf};
-ghost use Rattle.brd_lazy.specs.Finding.{IsKnown, IsMore};
 ghost use Rattle.brd_lazy.specs.Finds.{with_finds};
-ghost use Rattle.brd_lazy.specs.Spots.{spot_of};
+ghost use Rattle.brd_spots.specs.Spots.{spot_of, IsKnown, IsMore};
 
-use crate::spots::{Margin, Spots};
 use brd_base::NoMemory;
 use brd_board::{Board, Event};
+use brd_spots::{Margin, Spots};
 
 /// A place to which one event n times leads from another one.
 #[derive(Clone, Copy)]

@@ -6,15 +6,13 @@ ghost use Rattle.brd_board.specs.declared.event.Event.{Event as EventOf};
 ghost use Rattle.brd_explore.specs.Schedules.{Place as PlaceOf};
 ghost use Rattle.brd_explore.specs.declared.wanted.Wanted.{Wanted as WantedOf};
 ghost use Rattle.brd_frames.specs.Lagging.{Sharing as SharingOf};
-ghost use Rattle.brd_lazy.specs.Finding.{IsMore};
 ghost use Rattle.brd_lazy.specs.declared.round.Round.TheVariants.{Holds as holds};
 ghost use Rattle.brd_lazy.specs.Finds.{GoneSo, PartSo, with_finds};
 ghost use Rattle.brd_reach.specs.Rounds.{sharing_for};
+ghost use Rattle.brd_spots.specs.Spots.{IsMore};
 
 use crate::finds::Find;
 use crate::round::Round;
-use crate::seats::Seats;
-use crate::spots::Spots;
 use crate::stops::Stops;
 use crate::visit::{Tried, visit};
 use brd_base::NoMemory;
@@ -22,6 +20,7 @@ use brd_blocks::Sharing;
 use brd_board::Event;
 use brd_explore::Wanted;
 use brd_reach::Unknown;
+use brd_spots::{Seats, Spots};
 use std::alloc::Global;
 
 /// What visits to places in a row came to.

@@ -1,16 +1,15 @@
 //! Rounds: all places are visited, and those to which events lead from them.
 
-ghost use Rattle.std.specs.Prelude.{◌≡◌, ◌<◌, ◌≤◌, length, IfErr, IfOk};
+ghost use Rattle.std.specs.Prelude.{◌<◌, ◌≤◌, IfErr, IfOk};
 ghost use Rattle.brd_explore.specs.Searching.{HaltsSo};
-ghost use Rattle.brd_lazy.specs.Finding.{IsMore, RoundSo};
+ghost use Rattle.brd_lazy.specs.Finding.{RoundSo};
 ghost use Rattle.brd_lazy.specs.Finds.{GoneSo};
 ghost use Rattle.brd_reach.specs.Rounds.{sharing_for};
+ghost use Rattle.brd_spots.specs.Spots.{IsMore};
 
 use crate::crew::visit_by_threads;
 use crate::part::{in_one, visit_part};
-use crate::seats::Seats;
 use crate::settle::{join_many, join_one};
-use crate::spots::Spots;
 use crate::stops::Stops;
 use crate::twins::twins_by_threads;
 use brd_base::NoMemory;
@@ -18,6 +17,7 @@ use brd_blocks::Sharing;
 use brd_board::Event;
 use brd_explore::{Halt, Wanted, Watch};
 use brd_reach::Unknown;
+use brd_spots::{Seats, Spots};
 use std::alloc::Global;
 use std::thread::Threads;
 
@@ -42,8 +42,8 @@ const FEW: usize = 32;
 const MANY: usize = 256;
 
 /// Visits places, and those to which events lead from them, until all have been visited or one fails; at most so many,
-/// and as long as they take no more than so many bytes. So many threads visit them, if there are many; what they come to
-/// doesn't depend on that.
+/// and as long as they take no more than so many bytes. So many threads visit them, if there are many; what they come
+/// to doesn't depend on that.
 pub(crate) fn visit_all<T: Threads + Sync, W: Watch>(
     rt: &T,
     alloc: Global,

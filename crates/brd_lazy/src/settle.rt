@@ -6,18 +6,17 @@ ghost use Rattle.brd_board.specs.declared.event.Event.{Event as EventOf};
 ghost use Rattle.brd_explore.specs.Schedules.{Place as PlaceOf};
 ghost use Rattle.brd_explore.specs.declared.wanted.Wanted.{Wanted as WantedOf};
 ghost use Rattle.brd_frames.specs.Lagging.{Sharing as SharingOf};
-ghost use Rattle.brd_lazy.specs.Finding.{IsKnown, IsMore};
 ghost use Rattle.brd_lazy.specs.Finds.{AreSettled, GoneSo, IsTwin, PartSo, led_to};
+ghost use Rattle.brd_spots.specs.Spots.{IsKnown, IsMore};
 
 use crate::finds::Find;
 use crate::part::Part;
 use crate::round::Round;
-use crate::seats::Seats;
-use crate::spots::Spots;
 use crate::stops::Stops;
 use crate::twins::{Twin, lead};
 use brd_base::NoMemory;
 use brd_board::Board;
+use brd_spots::{Seats, Spots};
 
 /// Adds what visits came to, which went through all of their places, but for finds that earlier ones cover.
 pub(crate) fn join_many(

@@ -8,10 +8,9 @@ ghost use Rattle.brd_lazy.specs.Finds.{Covers, IsTwin, LeadAlike};
 ghost use Rattle.brd_lazy.specs.declared.finds.Find.{Find as FindOf};
 
 use crate::finds::Find;
-use crate::seats::Seats;
-use crate::spots::{Spots, is_enough};
 use brd_base::NoMemory;
 use brd_board::Board;
+use brd_spots::{Seats, Spots, is_enough};
 use std::alloc::Global;
 use std::thread::{Threads, map_indices};
 

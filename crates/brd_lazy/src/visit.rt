@@ -3,17 +3,15 @@
 ghost use Rattle.std.specs.Prelude.{◌≡◌, ◌<◌, suc, slice_get, IfOk, OnOk, Some, true, false};
 ghost use Rattle.brd_board.specs.declared.event.Event.TheVariants.{Step};
 ghost use Rattle.brd_board.specs.Board.{happens};
-ghost use Rattle.brd_explore.specs.Schedules.{Place as PlaceOf, does, next, is_left};
+ghost use Rattle.brd_explore.specs.Schedules.{Place as PlaceOf, does, next};
 ghost use Rattle.brd_lazy.specs.Blocks.{after_steps, end_of};
-ghost use Rattle.brd_lazy.specs.Spots.{spot_of};
-ghost use Rattle.brd_lazy.specs.Finding.{HasTriedAll, IsKnown, IsMore, TriedSo, VisitedSo};
+ghost use Rattle.brd_lazy.specs.Finding.{HasTriedAll, TriedSo, VisitedSo};
 ghost use Rattle.brd_lazy.specs.Finds.{with_finds};
 ghost use Rattle.brd_reach.specs.Rounds.{sharing_for};
+ghost use Rattle.brd_spots.specs.Spots.{spot_of, IsKnown, IsMore};
 
 use crate::block::{Block, go};
 use crate::finds::{Find, note};
-use crate::seats::Seats;
-use crate::spots::{Margin, Spots};
 use crate::stops::Stops;
 use brd_base::NoMemory;
 use brd_blocks::{Sharing, stands_well};
@@ -21,6 +19,7 @@ use brd_board::{Board, Event};
 use brd_explore::{Bounds, Wanted, did_nothing, stepper};
 use brd_places::copy_over;
 use brd_reach::{Unknown, memory_of};
+use brd_spots::{Margin, Seats, Spots};
 
 /// What was tried at a place came to.
 #[derive(Clone, Copy, PartialEq, Eq)]

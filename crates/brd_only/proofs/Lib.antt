@@ -1,6 +1,4 @@
-pub mod RichLemmas
-pub mod MoreLemmas
+pub mod HeldLemmas
 pub mod NoneLemmas
 pub mod PathLemmas
 pub mod WalkLemmas
-pub mod SpotLemmas

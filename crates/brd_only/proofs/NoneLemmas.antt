@@ -1,16 +1,25 @@
 -- Where all noted places have been gone through, no schedule fails that keeps to the regions.
 use Rattle.std.proofs.Common.{◌≡◌, ℕ, zero, suc, inl, inr, true, List, [], ◌∷◌, length, sym, ap, subst, ◌∙◌}
 use Rattle.std.specs.Prelude.{if◌then◌else◌}
-use Rattle.std.proofs.lemmas.Bool.{cases_Bool, false≢true}
+use Rattle.std.proofs.lemmas.Bool.{cases_Bool, and_from, false≢true}
 use Rattle.std.proofs.lemmas.Option.{slice_get_within}
 use Rattle.brd_board.specs.declared.event.Event.{Event}
 use Rattle.brd_explore.specs.declared.wanted.Wanted.{Wanted}
-use Rattle.brd_explore.specs.Schedules.{Place, IsRicher, does, next, place_after, event_at, IsAmong, IsWithin}
+use Rattle.brd_explore.specs.Schedules.{Place, IsRicher, does, is_left, next, place_after, event_at, IsAmong, IsWithin}
 use Rattle.brd_explore.specs.Searching.{FailsAt, Fails}
+use Rattle.brd_explore.proofs.RichLemmas.{rich-fails, rich-left, rich-next}
+use Rattle.brd_spots.specs.Spots.{IsKnown}
+use Rattle.brd_spots.proofs.KnownLemmas.{rich-same, rich-then}
 use Rattle.brd_only.specs.declared.region.Region.{Region}
-use Rattle.brd_only.specs.Only.{KeepsInside, NoneFailsInside}
-use Rattle.brd_only.specs.Finding.{IsKnown, may_go, HeldBy, IsHeld, IsDone, AreDone}
-use Rattle.brd_only.proofs.RichLemmas.{rich-fails, rich-goes, rich-next, rich-same, rich-then}
+use Rattle.brd_only.specs.Only.{switches_inside, KeepsInside, NoneFailsInside}
+use Rattle.brd_only.specs.Finding.{may_go, HeldBy, IsHeld, IsDone, AreDone}
+
+-- what may come from the place with less may come from the one with more
+rich-goes : (regions : List Region) (rich poor : Place) (e : Event) → IsRicher rich poor → is_left poor e ≡ true →
+    switches_inside regions poor.board poor.last e ≡ true → may_go regions rich e ≡ true
+rich-goes regions rich poor e r left inside =
+    and_from (is_left rich e) (switches_inside regions rich.board rich.last e) (rich-left rich poor e r left)
+    ((λ i. switches_inside regions (r.board i) (r.last i) e) ∙ inside)
 
 -- A place is held: one that has been gone through has the same board, and no less is left there.
 record Stands (among : List Event) (regions : List Region) (wanted : Wanted) (spots : List Place) (p : Place) : Type 0 where

@@ -1,21 +1,19 @@
 -- Walks: the same event again and again, where no other one may come.
-use Rattle.std.proofs.Common.{◌≡◌, ℕ, zero, suc, ◌+◌, ◌<◌, inl, inr, true, false, List, length, refl, sym, ap, subst, ◌∙◌, arith}
-use Rattle.std.specs.Prelude.{get_or, replicate, Result, Ok, Err, OnOk, Option}
+use Rattle.std.proofs.Common.{◌≡◌, ℕ, zero, suc, ◌+◌, ◌<◌, true, false, List, refl, sym, ap, subst, ◌∙◌, arith}
+use Rattle.std.specs.Prelude.{replicate, Result, Ok, Err, OnOk, Option}
 use Rattle.std.proofs.lemmas.Bool.{false≢true}
-use Rattle.std.proofs.lemmas.List.{get_or_default}
 use Rattle.brd_board.specs.declared.event.Event.{Event}
-use Rattle.brd_board.specs.declared.event.Event.TheVariants.{Tick}
 use Rattle.brd_board.specs.Board.{BoardState, happens, after}
 use Rattle.brd_explore.specs.declared.bounds.Bounds.{Bounds}
 use Rattle.brd_explore.specs.declared.wanted.Wanted.{Wanted}
 use Rattle.brd_explore.specs.Failures.{fails_at}
-use Rattle.brd_explore.specs.Schedules.{Place, does, stepper, spent, next, event_at}
+use Rattle.brd_explore.specs.Schedules.{Place, does, stepper, spent, next}
+use Rattle.brd_spots.specs.declared.spots.Margin.{Margin}
+use Rattle.brd_spots.specs.Spots.{spot_of, IsKnown}
+use Rattle.brd_spots.proofs.PlayLemmas.{next-is}
 use Rattle.brd_only.specs.declared.region.Region.{Region}
-use Rattle.brd_only.specs.declared.spots.Margin.{Margin}
-use Rattle.brd_only.specs.Spots.{spot_of}
-use Rattle.brd_only.specs.Finding.{IsKnown, may_go, IsAlone, HeldBy, IsHeld, HasWalked}
-use Rattle.brd_only.proofs.MoreLemmas.{known-held, less-or-same}
-use Rattle.brd_only.proofs.PathLemmas.{next-is}
+use Rattle.brd_only.specs.Finding.{IsAlone, HeldBy, IsHeld, HasWalked}
+use Rattle.brd_only.proofs.HeldLemmas.{known-held}
 
 -- one event more
 after-more : (b : BoardState) (event : Event) (n : ℕ) →
@@ -98,16 +96,3 @@ pub walked-leads : (among : List Event) (regions : List Region) (wanted : Wanted
     there ≡ after b (replicate (count + 1) event)
 walked-leads among regions wanted b first there event rest margin count is walked =
     walked.board ∙ ap (λ z. after z (replicate count event)) is ∙ ap (λ n. after b (replicate n event)) (plus-one count)
-
--- One event more was looked at.
-pub alone-next : (among : List Event) (regions : List Region) (p : Place) (event other : Event) (i : ℕ) →
-    ((k : ℕ) → k < i → may_go regions p (event_at among k) ≡ true → event_at among k ≡ event) →
-    (may_go regions p other ≡ true → other ≡ event) → other ≡ get_or among i other → i < length among →
-    (k : ℕ) → k < i + 1 → may_go regions p (event_at among k) ≡ true → event_at among k ≡ event
-alone-next among regions p event other i before here is within k less may =
-    elim (less-or-same k i less) [
-      | inl below ↦ before k below may
-      | inr same ↦
-          let there : event_at among k ≡ other = ap (event_at among) same ∙ sym (is ∙ get_or_default among i other Tick within) in
-          there ∙ here (subst (λ e. may_go regions p e ≡ true) there may)
-    ]

@@ -1,36 +1,19 @@
 -- What a search has done. (Contracts of private functions alone name this.)
-use Rattle.std.specs.Prelude.{◌≡◌, ℕ, zero, suc, ◌<◌, ◌≤◌, Bool, true, false, ◌&&◌, List, ◌++◌, length, replicate}
+use Rattle.std.specs.Prelude.{◌≡◌, ℕ, zero, suc, ◌<◌, ◌≤◌, Bool, true, false, ◌&&◌, List, length, replicate}
 use Rattle.std.specs.Prelude.{slice_get, Option, Some, None}
 use Rattle.brd_board.specs.declared.event.Event.{Event}
 use Rattle.brd_board.specs.Board.{BoardState, after}
 use Rattle.brd_explore.specs.declared.wanted.Wanted.{Wanted}
-use Rattle.brd_explore.specs.Schedules.{Place, IsRicher, does, is_left, next, event_at}
+use Rattle.brd_explore.specs.Schedules.{Place, does, is_left, next, event_at}
 use Rattle.brd_explore.specs.Failures.{fails_at}
+use Rattle.brd_spots.specs.Spots.{spot_of, IsKnown}
 use Rattle.brd_only.specs.declared.region.Region.{Region}
 use Rattle.brd_only.specs.Only.{switches_inside}
-use Rattle.brd_only.specs.Spots.{spot_of}
 use Rattle.brd_only.specs.declared.walk.Walk.{Walk}
 use Rattle.brd_only.specs.declared.visit.Visited.{Visited}
 use Rattle.brd_only.specs.declared.visit.Visited.TheVariants as visited
 use Rattle.brd_only.specs.declared.finding.Round.{Round}
 use Rattle.brd_only.specs.declared.finding.Round.TheVariants as round
-
--- Places.
-
--- a place is one of these
-abbrev pub IsIn : List Place → Place → Type 0
-IsIn spots p = (at : ℕ) × (slice_get spots at ≡ Some p)
-
--- there are no fewer than there were
-abbrev pub IsMore : List Place → List Place → Type 0
-IsMore old new = (more : List Place) × (new ≡ old ++ more)
-
--- One of these covers a place: it has the same board, the same processor has stepped last there, as many raises are
--- owed, and no less is left.
-pub record IsKnown (spots : List Place) (p : Place) : Type 0 where
-  pub place : Place
-  pub there : IsIn spots place
-  pub richer : IsRicher place p
 
 -- What comes next.
 

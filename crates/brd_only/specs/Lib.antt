@@ -1,3 +1,2 @@
 pub mod Only
-pub mod Spots
 pub mod Finding

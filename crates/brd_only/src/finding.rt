@@ -1,18 +1,19 @@
 //! The search: all places, and a schedule that fails if one of them does.
 
 ghost use Rattle.std.specs.Prelude.{◌≡◌, IfErr, IfOk, true};
-ghost use Rattle.brd_explore.specs.Schedules.{IsAmong, start};
+ghost use Rattle.brd_explore.specs.Schedules.{start};
 ghost use Rattle.brd_explore.specs.Searching.{HaltsSo};
 ghost use Rattle.brd_only.specs.Only.{FoundSo, IsFoundInside};
-ghost use Rattle.brd_only.specs.Finding.{IsMore, RoundSo};
+ghost use Rattle.brd_only.specs.Finding.{RoundSo};
+ghost use Rattle.brd_spots.specs.Spots.{IsMore};
 
 use crate::region::{Region, switches_inside};
-use crate::spots::Spots;
-use crate::visit::{Seats, Visited, visit};
+use crate::visit::{Visited, visit};
 use crate::words::busy_words;
 use brd_base::NoMemory;
 use brd_board::{Board, Event};
-use brd_explore::{Bounds, Counts, Halt, Wanted, Watch, did_nothing, stepper};
+use brd_explore::{Bounds, Counts, Halt, Wanted, Watch};
+use brd_spots::{Margin, Seats, Spots, play};
 use std::alloc::Global;
 
 /// What a search came to.
@@ -79,7 +80,7 @@ pub fn find_inside<W: Watch>(
     }
     let words = busy_words(alloc, board, among)?;
     let mut spots = Spots::new(alloc, board, bounds)?;
-    let mut seats = Seats::new(board)?;
+    let mut seats = Seats::new(&spots)?;
     let mut counts = NONE;
     match visit_all(
         &mut spots,
@@ -171,33 +172,18 @@ fn is_found(
         IsFoundInside wanted.now among.now regions.now (start board.now bounds) events.now) }
 {
     let mut there = board.try_copy()?;
-    let mut left = bounds;
-    let mut last = None;
+    let mut margin = Margin {
+        left: bounds,
+        last: None,
+    };
     for event in events {
-        if !is_among(among, *event) || !left.affords(last, *event) {
+        if !switches_inside(regions, &there, margin.last, *event) {
             return Ok(false);
         }
-        if !switches_inside(regions, &there, last, *event) {
+        let Some(rest) = play(&mut there, margin, among, *event) else {
             return Ok(false);
-        }
-        let rest = left.spent(last, *event);
-        if did_nothing(there.event_apart(*event)) {
-            return Ok(false);
-        }
-        left = rest;
-        last = stepper(&there, last, *event);
+        };
+        margin = rest;
     }
-    wanted.fails_at(&there, left)
-}
-
-/// Whether an event is one of these.
-fn is_among(among: &[Event], event: Event) -> bool
-    ensures { result ≡ true → IsAmong among.now event }
-{
-    for other in among {
-        if *other == event {
-            return true;
-        }
-    }
-    false
+    wanted.fails_at(&there, margin.left)
 }

@@ -6,7 +6,6 @@
 
 mod finding;
 mod region;
-mod spots;
 mod visit;
 mod walk;
 mod words;

@@ -2,17 +2,17 @@
 
 ghost use Rattle.std.specs.Prelude.{◌≡◌, ◌<◌, length, slice_get, IfOk, OnOk, Some, true};
 ghost use Rattle.brd_explore.specs.Schedules.{Place as PlaceOf, does, next};
-ghost use Rattle.brd_only.specs.Spots.{spot_of};
-ghost use Rattle.brd_only.specs.Finding.{HaveGone, IsHeld, IsMore, VisitedSo};
+ghost use Rattle.brd_only.specs.Finding.{HaveGone, IsHeld, VisitedSo};
+ghost use Rattle.brd_spots.specs.Spots.{spot_of, IsMore};
 
 use crate::region::Region;
-use crate::spots::{Margin, Spots};
 use crate::walk::{go_on, may_go};
 use crate::words::memory_of;
 use brd_base::NoMemory;
 use brd_board::{Board, Event};
 use brd_explore::{Bounds, Counts, Wanted, did_nothing, is_cut, is_end, stepper};
 use brd_places::copy_over;
+use brd_spots::{Margin, Seats, Spots};
 
 /// What a visit came to.
 #[derive(Clone, Copy, PartialEq, Eq)]
@@ -23,25 +23,6 @@ pub(crate) enum Visited {
     Fails,
     /// There is none.
     Lost,
-}
-
-/// Boards that become other ones, so that none is made anew at each place.
-#[derive(Drop)]
-pub(crate) struct Seats {
-    /// That of a place.
-    here: Board,
-    /// That to which an event leads from it.
-    last: Board,
-}
-
-impl Seats {
-    /// Two boards.
-    pub fn new(board: &Board) -> Result<Seats, NoMemory> {
-        Ok(Seats {
-            here: board.try_copy()?,
-            last: board.try_copy()?,
-        })
-    }
 }
 
 /// Visits the place of an index: looks whether it fails, and tries all events that may come there. `words` are the
@@ -80,6 +61,7 @@ pub(crate) fn visit(
         regions,
         wanted,
         &mut seats.last,
+        &mut seats.spare,
     )?;
     Ok(Visited::Done)
 }
@@ -95,6 +77,7 @@ fn try_all(
     regions: &[Region],
     wanted: &Wanted,
     last: &mut Board,
+    spare: &mut Board,
 ) -> Result<(), NoMemory>
     requires { slice_get spots.old at ≡ Some (spot_of board.now margin) }
     ensures more { IsMore spots.old spots.new }
@@ -106,7 +89,7 @@ fn try_all(
             continue;
         }
         try_event(
-            spots, at, board, margin, words, among, regions, wanted, *event, last,
+            spots, at, board, margin, words, among, regions, wanted, *event, last, spare,
         )?;
     }
     Ok(())
@@ -143,6 +126,7 @@ fn try_event(
     wanted: &Wanted,
     event: Event,
     last: &mut Board,
+    spare: &mut Board,
 ) -> Result<(), NoMemory>
     requires { slice_get spots.old at ≡ Some (spot_of board.now margin) }
     ensures more { IsMore spots.old spots.new }
@@ -151,7 +135,7 @@ fn try_event(
 {
     copy_over(last, board)?;
     go_by(
-        spots, at, last, margin, words, among, regions, wanted, event,
+        spots, at, last, margin, words, among, regions, wanted, event, spare,
     )
 }
 
@@ -167,6 +151,7 @@ fn go_by(
     regions: &[Region],
     wanted: &Wanted,
     event: Event,
+    spare: &mut Board,
 ) -> Result<(), NoMemory>
     requires { slice_get spots.old at ≡ Some (spot_of board.old margin) }
     ensures more { IsMore spots.old spots.new }
@@ -184,7 +169,7 @@ fn go_by(
         None => Ok(()),
         Some(walk) => {
             let mark = spots.mark_of(board, walk.margin, memory_of(board, words));
-            spots.note(at, event, walk.count + 1, board, walk.margin, mark)
+            spots.note(at, event, walk.count + 1, board, walk.margin, mark, spare)
         }
     }
 }

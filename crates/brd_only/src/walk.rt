@@ -2,13 +2,13 @@
 
 ghost use Rattle.std.specs.Prelude.{◌≡◌, true, false, IfOk};
 ghost use Rattle.brd_only.specs.Finding.{IsAlone, WalkedSo, may_go};
-ghost use Rattle.brd_only.specs.Spots.{spot_of};
+ghost use Rattle.brd_spots.specs.Spots.{spot_of};
 
 use crate::region::{Region, switches_inside};
-use crate::spots::Margin;
 use brd_base::NoMemory;
 use brd_board::{Board, Event};
 use brd_explore::{Wanted, did_nothing, stepper};
+use brd_spots::Margin;
 
 /// How many events a walk has at most (own choice).
 const MOST: u32 = 10_000;

@@ -2,8 +2,9 @@ use Rattle.std.proofs.Common.{subst, arith}
 use Rattle.brd_explore.specs.Schedules.{start}
 use Rattle.brd_reach.specs.Rounds.{sharing_for}
 use Rattle.brd_reach.proofs.AnswerLemmas.{guards-so}
+use Rattle.brd_spots.proofs.KnownLemmas.{begins-known}
 use Rattle.brd_lazy.specs.Finding.{RoundSo}
-use Rattle.brd_lazy.proofs.FindLemmas.{begins-known, holds-so}
+use Rattle.brd_lazy.proofs.FindLemmas.{holds-so}
 use Rattle.brd_lazy.proofs.finding.find_lazily.Goals as goal
 
 pub returns-in-Holds-clause-is : goal.returns-in-Holds-clause-is

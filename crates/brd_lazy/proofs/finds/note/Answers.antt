@@ -1,6 +1,4 @@
-use Rattle.brd_lazy.specs.Spots.{spot_of}
-use Rattle.brd_lazy.specs.Finds.{with_finds}
-use Rattle.brd_lazy.proofs.FindLemmas.{more-same}
+use Rattle.brd_spots.specs.Spots.{spot_of}
 use Rattle.brd_lazy.proofs.FoundLemmas.{found-is-known, found-is-more, known-with}
 use Rattle.brd_lazy.proofs.finds.note.Goals as goal
 

@@ -1,8 +1,8 @@
 use Rattle.std.proofs.Common.{subst, arith}
 use Rattle.brd_reach.specs.Rounds.{sharing_for}
+use Rattle.brd_spots.proofs.KnownLemmas.{more-same, more-then}
 use Rattle.brd_lazy.specs.Finding.{VisitedSo}
 use Rattle.brd_lazy.specs.Finds.{with_finds}
-use Rattle.brd_lazy.proofs.FindLemmas.{more-same, more-then}
 use Rattle.brd_lazy.proofs.FoundLemmas.{gone-next, gone-none}
 use Rattle.brd_lazy.proofs.part.visit_row.Goals as goal
 

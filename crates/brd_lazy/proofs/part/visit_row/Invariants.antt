@@ -1,6 +1,6 @@
 -- The places so far were gone through.
 use Rattle.brd_reach.specs.Rounds.{sharing_for}
-use Rattle.brd_lazy.specs.Finding.{IsMore}
+use Rattle.brd_spots.specs.Spots.{IsMore}
 use Rattle.brd_lazy.specs.Finds.{AreGone, with_finds}
 use Rattle.brd_lazy.proofs.part.visit_row.Given as goal
 

@@ -1,7 +1,7 @@
-use Rattle.std.proofs.Common.{◌≡◌, ◌≤◌, length, subst, arith}
+use Rattle.std.proofs.Common.{◌≤◌, length, subst, arith}
 use Rattle.brd_reach.specs.Rounds.{sharing_for}
+use Rattle.brd_spots.proofs.KnownLemmas.{more-then}
 use Rattle.brd_lazy.specs.Finds.{GoneSo}
-use Rattle.brd_lazy.proofs.FindLemmas.{more-then}
 use Rattle.brd_lazy.proofs.FoundLemmas.{done-far, more-long}
 use Rattle.brd_lazy.proofs.round.visit_all.Goals as goal
 

@@ -1,7 +1,8 @@
 -- The places so far were gone through.
 use Rattle.std.specs.Prelude.{◌-◌, ◌≤◌, length}
 use Rattle.brd_reach.specs.Rounds.{sharing_for}
-use Rattle.brd_lazy.specs.Finding.{AreDone, IsMore}
+use Rattle.brd_spots.specs.Spots.{IsMore}
+use Rattle.brd_lazy.specs.Finding.{AreDone}
 use Rattle.brd_lazy.proofs.round.visit_all.Given as goal
 
 abbrev pub invariant-loop-at : goal.invariant-loop-at

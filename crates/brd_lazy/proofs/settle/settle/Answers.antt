@@ -1,6 +1,6 @@
 use Rattle.std.proofs.Common.{arith}
 use Rattle.std.proofs.lemmas.Option.{slice_get-get_or}
-use Rattle.brd_lazy.proofs.FindLemmas.{more-same, more-then}
+use Rattle.brd_spots.proofs.KnownLemmas.{more-same, more-then}
 use Rattle.brd_lazy.proofs.FoundLemmas.{settled-next}
 use Rattle.brd_lazy.proofs.settle.settle.Goals as goal
 

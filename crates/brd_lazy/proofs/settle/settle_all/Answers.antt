@@ -1,5 +1,5 @@
 use Rattle.std.proofs.Common.{arith}
-use Rattle.brd_lazy.proofs.FindLemmas.{more-same, more-then}
+use Rattle.brd_spots.proofs.KnownLemmas.{more-same, more-then}
 use Rattle.brd_lazy.proofs.settle.settle_all.Goals as goal
 
 pub loop-at-init : goal.loop-at-init

@@ -1,5 +1,5 @@
 -- The finds so far are known.
-use Rattle.brd_lazy.specs.Finding.{IsMore}
+use Rattle.brd_spots.specs.Spots.{IsMore}
 use Rattle.brd_lazy.specs.Finds.{AreSettled}
 use Rattle.brd_lazy.proofs.settle.settle_all.Given as goal
 

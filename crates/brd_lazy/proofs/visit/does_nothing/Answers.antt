@@ -1,7 +1,7 @@
 use Rattle.std.proofs.Common.{refl, ap, ◌∙◌}
 use Rattle.std.specs.Prelude.{not}
 use Rattle.brd_board.specs.declared.event.Event.TheVariants.{Step}
-use Rattle.brd_lazy.proofs.FindLemmas.{done-nothing}
+use Rattle.brd_spots.proofs.PlayLemmas.{done-nothing}
 use Rattle.brd_lazy.proofs.visit.does_nothing.Goals as goal
 
 pub returns : goal.returns

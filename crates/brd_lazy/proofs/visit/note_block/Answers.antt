@@ -1,8 +1,8 @@
 use Rattle.std.proofs.Common.{◌≡◌, ◌+◌, refl, ap, subst, ◌∙◌, arith}
 use Rattle.std.specs.Prelude.{suc, ◌-◌, OnOk}
+use Rattle.brd_spots.specs.declared.spots.Margin.{Margin}
+use Rattle.brd_spots.specs.Spots.{IsKnown}
 use Rattle.brd_lazy.specs.Blocks.{after_steps}
-use Rattle.brd_lazy.specs.declared.spots.Margin.{Margin}
-use Rattle.brd_lazy.specs.Finding.{IsKnown}
 use Rattle.brd_lazy.specs.Finds.{with_finds}
 use Rattle.brd_lazy.proofs.FindLemmas.{block-is}
 use Rattle.brd_lazy.proofs.visit.note_block.Goals as goal

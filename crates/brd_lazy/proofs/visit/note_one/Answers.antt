@@ -1,7 +1,7 @@
 use Rattle.std.proofs.Common.{subst}
 use Rattle.std.specs.Prelude.{OnOk}
-use Rattle.brd_lazy.specs.declared.spots.Margin.{Margin}
-use Rattle.brd_lazy.specs.Finding.{IsKnown}
+use Rattle.brd_spots.specs.declared.spots.Margin.{Margin}
+use Rattle.brd_spots.specs.Spots.{IsKnown}
 use Rattle.brd_lazy.specs.Finds.{with_finds}
 use Rattle.brd_lazy.proofs.FindLemmas.{one-is}
 use Rattle.brd_lazy.proofs.visit.note_one.Goals as goal

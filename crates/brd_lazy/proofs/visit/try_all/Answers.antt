@@ -3,10 +3,11 @@ use Rattle.std.proofs.lemmas.Bool.{false≢true}
 use Rattle.std.proofs.lemmas.List.{get_or_default}
 use Rattle.brd_board.specs.declared.event.Event.TheVariants.{Step}
 use Rattle.brd_reach.specs.Rounds.{sharing_for}
-use Rattle.brd_lazy.specs.Spots.{spot_of}
+use Rattle.brd_spots.specs.Spots.{spot_of}
+use Rattle.brd_spots.proofs.KnownLemmas.{more-same, more-then}
 use Rattle.brd_lazy.specs.Finding.{TriedSo}
 use Rattle.brd_lazy.specs.Finds.{with_finds}
-use Rattle.brd_lazy.proofs.FindLemmas.{more-same, more-then, tried-next}
+use Rattle.brd_lazy.proofs.FindLemmas.{tried-next}
 use Rattle.brd_lazy.proofs.visit.try_all.Goals as goal
 
 pub loop-event-preserved-then-not-affords : goal.loop-event-preserved-then-not-affords

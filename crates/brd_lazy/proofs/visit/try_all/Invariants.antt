@@ -2,8 +2,8 @@
 use Rattle.std.specs.Prelude.{◌≡◌, slice_get, Some}
 use Rattle.brd_link.specs.LinkSet.{IsLinkSet}
 use Rattle.brd_reach.specs.Rounds.{sharing_for}
-use Rattle.brd_lazy.specs.Spots.{spot_of}
-use Rattle.brd_lazy.specs.Finding.{HaveTried, IsMore}
+use Rattle.brd_spots.specs.Spots.{spot_of, IsMore}
+use Rattle.brd_lazy.specs.Finding.{HaveTried}
 use Rattle.brd_lazy.specs.Finds.{with_finds}
 use Rattle.brd_lazy.proofs.visit.try_all.Given as goal
 

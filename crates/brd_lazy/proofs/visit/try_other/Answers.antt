@@ -2,8 +2,8 @@ use Rattle.std.proofs.Common.{refl, sym, ap, ◌∙◌}
 use Rattle.std.specs.Prelude.{not}
 use Rattle.std.proofs.lemmas.Bool.{false≢true}
 use Rattle.brd_board.specs.Board.{BoardState, Happened, happens}
-use Rattle.brd_lazy.specs.Spots.{spot_of}
-use Rattle.brd_lazy.proofs.FindLemmas.{done-nothing}
+use Rattle.brd_spots.specs.Spots.{spot_of}
+use Rattle.brd_spots.proofs.PlayLemmas.{done-nothing}
 use Rattle.brd_lazy.proofs.visit.try_other.Goals as goal
 
 pub returns-clause-known : goal.returns-clause-known

@@ -6,8 +6,8 @@ use Rattle.brd_board.specs.Board.{BoardState, happens}
 use Rattle.brd_explore.specs.Schedules.{does}
 use Rattle.brd_frames.specs.Reducing.{IsQuiet}
 use Rattle.brd_reach.specs.Rounds.{sharing_for}
+use Rattle.brd_spots.specs.Spots.{spot_of}
 use Rattle.brd_lazy.specs.Blocks.{after_steps, AreHidden, IsBlock}
-use Rattle.brd_lazy.specs.Spots.{spot_of}
 use Rattle.brd_lazy.specs.Finding.{EndsWithin, WentSo}
 use Rattle.brd_lazy.specs.Finds.{with_finds}
 use Rattle.brd_lazy.proofs.FindLemmas.{block-leads}

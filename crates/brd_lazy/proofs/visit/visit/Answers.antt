@@ -1,7 +1,7 @@
 use Rattle.std.proofs.Common.{◌≡◌, sym, ap, subst, ◌∙◌}
 use Rattle.std.specs.Prelude.{IfOk, Some}
 use Rattle.brd_reach.specs.Rounds.{sharing_for}
-use Rattle.brd_lazy.specs.Spots.{spot_of}
+use Rattle.brd_spots.specs.Spots.{spot_of}
 use Rattle.brd_lazy.specs.Finding.{VisitedSo}
 use Rattle.brd_lazy.specs.Finds.{with_finds}
 use Rattle.brd_lazy.proofs.FoundLemmas.{visited}

@@ -1,7 +1,7 @@
 use Rattle.std.proofs.Common.{subst, arith}
 use Rattle.brd_explore.specs.Schedules.{start}
 use Rattle.brd_only.specs.Finding.{RoundSo}
-use Rattle.brd_only.proofs.MoreLemmas.{begins-known}
+use Rattle.brd_spots.proofs.KnownLemmas.{begins-known}
 use Rattle.brd_only.proofs.NoneLemmas.{holds-so}
 use Rattle.brd_only.proofs.finding.find_inside.Goals as goal
 

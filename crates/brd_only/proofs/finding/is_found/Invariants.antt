@@ -1,9 +1,9 @@
 -- The events so far are within the bounds, keep to the regions, and have led to the board.
 use Rattle.brd_explore.specs.Schedules.{start}
-use Rattle.brd_only.proofs.PathLemmas.{HasFollowed}
+use Rattle.brd_spots.specs.Spots.{spot_of}
+use Rattle.brd_only.proofs.PathLemmas.{HasKept}
 use Rattle.brd_only.proofs.finding.is_found.Given as goal
 
 abbrev pub invariant-loop-event : goal.invariant-loop-event
 invariant-loop-event l =
-    HasFollowed l.among l.regions (start l.fn.board l.fn.bounds) l.events l.event-index
-    (record { board = l.there; left = l.left; last = l.last })
+    HasKept l.among l.regions (start l.fn.board l.fn.bounds) l.events l.event-index (spot_of l.there l.margin)

@@ -1,6 +1,7 @@
 use Rattle.std.proofs.Common.{subst, arith}
 use Rattle.brd_only.specs.Finding.{VisitedSo}
-use Rattle.brd_only.proofs.MoreLemmas.{done-next, more-then, there-is}
+use Rattle.brd_spots.proofs.KnownLemmas.{more-then, there-is}
+use Rattle.brd_only.proofs.HeldLemmas.{done-next}
 use Rattle.brd_only.proofs.finding.visit_all.Goals as goal
 
 pub returns-then-at-len-clause-so : goal.returns-then-at-len-clause-so

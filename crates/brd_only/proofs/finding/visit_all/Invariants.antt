@@ -1,5 +1,6 @@
 -- The places so far were gone through.
-use Rattle.brd_only.specs.Finding.{AreDone, IsMore}
+use Rattle.brd_spots.specs.Spots.{IsMore}
+use Rattle.brd_only.specs.Finding.{AreDone}
 use Rattle.brd_only.proofs.finding.visit_all.Given as goal
 
 abbrev pub invariant-loop-at : goal.invariant-loop-at

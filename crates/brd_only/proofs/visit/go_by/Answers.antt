@@ -2,11 +2,11 @@ use Rattle.std.proofs.Common.{refl, sym, ap, subst, ◌∙◌}
 use Rattle.std.specs.Prelude.{not}
 use Rattle.std.proofs.lemmas.Bool.{false≢true}
 use Rattle.brd_board.specs.Board.{Happened}
-use Rattle.brd_only.specs.declared.spots.Margin.{Margin}
-use Rattle.brd_only.specs.Spots.{spot_of}
+use Rattle.brd_spots.specs.declared.spots.Margin.{Margin}
+use Rattle.brd_spots.specs.Spots.{spot_of}
+use Rattle.brd_spots.proofs.KnownLemmas.{at-within}
+use Rattle.brd_spots.proofs.PlayLemmas.{done-nothing}
 use Rattle.brd_only.specs.Finding.{WalkedSo}
-use Rattle.brd_only.proofs.MoreLemmas.{at-within}
-use Rattle.brd_only.proofs.PathLemmas.{done-nothing}
 use Rattle.brd_only.proofs.WalkLemmas.{over-next, walked-held, walked-leads}
 use Rattle.brd_only.proofs.visit.go_by.Goals as goal
 

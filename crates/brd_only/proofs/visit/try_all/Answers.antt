@@ -2,8 +2,9 @@ use Rattle.std.proofs.Common.{sym, ◌∙◌, arith}
 use Rattle.std.proofs.lemmas.Bool.{false≢true}
 use Rattle.std.proofs.lemmas.List.{get_or_default}
 use Rattle.brd_board.specs.declared.event.Event.TheVariants.{Step}
-use Rattle.brd_only.specs.Spots.{spot_of}
-use Rattle.brd_only.proofs.MoreLemmas.{gone-next, more-same, more-then, spot-more}
+use Rattle.brd_spots.specs.Spots.{spot_of}
+use Rattle.brd_spots.proofs.KnownLemmas.{more-same, more-then, spot-more}
+use Rattle.brd_only.proofs.HeldLemmas.{gone-next}
 use Rattle.brd_only.proofs.visit.try_all.Goals as goal
 
 pub try_event-requires : goal.try_event-requires

@@ -1,6 +1,6 @@
 -- The events so far were tried.
-use Rattle.brd_only.specs.Spots.{spot_of}
-use Rattle.brd_only.specs.Finding.{HaveGone, IsMore}
+use Rattle.brd_spots.specs.Spots.{spot_of, IsMore}
+use Rattle.brd_only.specs.Finding.{HaveGone}
 use Rattle.brd_only.proofs.visit.try_all.Given as goal
 
 abbrev pub invariant-loop-event : goal.invariant-loop-event

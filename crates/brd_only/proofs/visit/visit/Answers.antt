@@ -1,7 +1,7 @@
 use Rattle.std.proofs.Common.{sym, ap, subst, ◌∙◌}
-use Rattle.brd_only.specs.Spots.{spot_of}
+use Rattle.brd_spots.specs.Spots.{spot_of}
+use Rattle.brd_spots.proofs.KnownLemmas.{here-is}
 use Rattle.brd_only.specs.Finding.{IsDone}
-use Rattle.brd_only.proofs.MoreLemmas.{here-is}
 use Rattle.brd_only.proofs.visit.visit.Goals as goal
 
 pub try_all-requires : goal.try_all-requires

@@ -1,9 +1,9 @@
 use Rattle.std.proofs.Common.{refl, sym, ap, subst, ◌∙◌, ◌≡◌, arith}
 use Rattle.std.specs.Prelude.{not}
 use Rattle.brd_board.specs.Board.{Happened}
-use Rattle.brd_only.specs.Spots.{spot_of}
+use Rattle.brd_spots.specs.Spots.{spot_of}
+use Rattle.brd_spots.proofs.PlayLemmas.{done-nothing}
 use Rattle.brd_only.specs.Finding.{HasWalked}
-use Rattle.brd_only.proofs.PathLemmas.{done-nothing}
 use Rattle.brd_only.proofs.WalkLemmas.{over-held, walked-more, walked-none}
 use Rattle.brd_only.proofs.walk.go_on.Goals as goal
 

@@ -1,5 +1,5 @@
 -- The events so far have led here.
-use Rattle.brd_only.specs.Spots.{spot_of}
+use Rattle.brd_spots.specs.Spots.{spot_of}
 use Rattle.brd_only.specs.Finding.{HasWalked}
 use Rattle.brd_only.proofs.walk.go_on.Given as goal
 

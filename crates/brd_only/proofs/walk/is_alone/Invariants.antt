@@ -2,7 +2,7 @@
 use Rattle.std.proofs.Common.{◌≡◌, ℕ, ◌<◌}
 use Rattle.std.specs.Prelude.{true}
 use Rattle.brd_explore.specs.Schedules.{event_at}
-use Rattle.brd_only.specs.Spots.{spot_of}
+use Rattle.brd_spots.specs.Spots.{spot_of}
 use Rattle.brd_only.specs.Finding.{may_go}
 use Rattle.brd_only.proofs.walk.is_alone.Given as goal
 

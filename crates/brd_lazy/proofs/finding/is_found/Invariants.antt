@@ -1,9 +1,0 @@
--- The events so far are within the bounds, and have led to the board.
-use Rattle.brd_explore.specs.Schedules.{start}
-use Rattle.brd_lazy.proofs.FindLemmas.{HasFollowed}
-use Rattle.brd_lazy.proofs.finding.is_found.Given as goal
-
-abbrev pub invariant-loop-event : goal.invariant-loop-event
-invariant-loop-event l =
-    HasFollowed l.among (start l.fn.board l.fn.bounds) l.events l.event-index
-    (record { board = l.there; left = l.left; last = l.last })

@@ -1,1 +1,0 @@
-use Rattle.brd_lazy.proofs.settle.settle_one.Goals as goal

@@ -1,0 +1,11 @@
+use Rattle.std.proofs.Common.{◌≡◌, List, sym, subst}
+use Rattle.std.specs.Prelude.{slice_get, Some, OnOk}
+use Rattle.brd_explore.specs.Schedules.{Place}
+use Rattle.brd_spots.proofs.SpotLemmas.{parts}
+use Rattle.brd_spots.proofs.spots.Spots.put.Goals as goal
+
+pub returns : goal.returns
+returns c = λ p is.
+    let it = parts c.self.inside.boards c.self.inside.margins.items c.args.i p
+    (subst (λ (ps : List Place). slice_get ps c.args.i ≡ Some p) (sym c.self.view_is) is) in
+    subst (λ (q : Place). OnOk c.put.result (c.put.new.board ≡ q.board)) it.is (c.put.ensures it.place it.board_there)
