@@ -17,8 +17,8 @@ use brd_base::NoMemory;
 use brd_blocks::{Sharing, stands_well};
 use brd_board::{Board, Event};
 use brd_explore::{Bounds, Wanted, did_nothing, stepper};
-use brd_places::copy_over;
-use brd_reach::{Unknown, memory_of};
+use brd_places::{copy_over, memory_of};
+use brd_reach::Unknown;
 use brd_spots::{Margin, Seats, Spots};
 
 /// What was tried at a place came to.

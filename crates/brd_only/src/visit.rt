@@ -7,11 +7,10 @@ ghost use Rattle.brd_spots.specs.Spots.{spot_of, IsMore};
 
 use crate::region::Region;
 use crate::walk::{go_on, may_go};
-use crate::words::memory_of;
 use brd_base::NoMemory;
 use brd_board::{Board, Event};
 use brd_explore::{Bounds, Counts, Wanted, did_nothing, is_cut, is_end, stepper};
-use brd_places::copy_over;
+use brd_places::{copy_over, memory_of};
 use brd_spots::{Margin, Seats, Spots};
 
 /// What a visit came to.

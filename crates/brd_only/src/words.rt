@@ -2,7 +2,6 @@
 
 use brd_base::{List, NoMemory};
 use brd_board::{Board, Event};
-use brd_places::mix;
 use std::alloc::Global;
 
 /// How often each event comes on the way that shows which words change (own choice).
@@ -54,15 +53,4 @@ fn add_changed(
         }
     }
     Ok(())
-}
-
-/// A number for the memory of a board, by the words at some addresses.
-pub(crate) fn memory_of(board: &Board, words: &[u32]) -> u64 {
-    let mut number = 0;
-    for address in words {
-        if let Some(word) = board.aligned_word(*address) {
-            number ^= mix(*address, word);
-        }
-    }
-    number
 }

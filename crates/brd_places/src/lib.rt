@@ -15,6 +15,6 @@ mod seat;
 mod table;
 
 pub use left::Left;
-pub use marks::mix;
+pub use marks::{memory_of, mix};
 pub use places::Places;
 pub use seat::copy_over;

@@ -62,6 +62,17 @@ pub fn mix(address: u32, word: u32) -> u64 {
     mixed ^ (mixed >> 31)
 }
 
+/// A number for the memory of a board, by the words at some addresses.
+pub fn memory_of(board: &Board, words: &[u32]) -> u64 {
+    let mut number = 0;
+    for address in words {
+        if let Some(word) = board.aligned_word(*address) {
+            number ^= mix(*address, word);
+        }
+    }
+    number
+}
+
 /// A mark, and a number more.
 fn marked(mark: u64, number: u64) -> u64 {
     (mark.rotate_left(5) ^ number).wrapping_mul(0x517c_c1b7_2722_0a95)

@@ -21,4 +21,3 @@ pub use endless::{never_ends, rest_of, show_all};
 pub use held::{Final, Held};
 pub use searching::{Reached, guarded, learn, owned_words, ram_len, reach};
 pub use unknown::Unknown;
-pub use visit::memory_of;

@@ -16,7 +16,7 @@ use brd_base::NoMemory;
 use brd_blocks::Sharing;
 use brd_board::{Board, Event};
 use brd_explore::{Bounds, Wanted};
-use brd_places::{Left, Places, copy_over, mix};
+use brd_places::{Left, Places, copy_over, memory_of};
 use std::alloc::Global;
 
 /// What was tried at a place came to.
@@ -214,15 +214,4 @@ fn note(
     }
     ways.add(at, places.len())?;
     places.add(at, event, count, left, mark)
-}
-
-/// A number for the memory of a board, by the words at some addresses.
-pub fn memory_of(board: &Board, words: &[u32]) -> u64 {
-    let mut number = 0;
-    for address in words {
-        if let Some(word) = board.aligned_word(*address) {
-            number ^= mix(*address, word);
-        }
-    }
-    number
 }
