@@ -474,7 +474,7 @@ for source in peterson.s peterson_right.s; do
         wrong=$(is_found $got)
         grep -qx 'board-journal 2 little' "$work/found" || wrong="$wrong; its journal is $(head -n 1 "$work/found")"
     else
-        wrong=$(is_none 836 "at most 50 events, 2 preemptions, 0 ticks and 0 raises" $got 371)
+        wrong=$(is_none 522 "at most 50 events, 2 preemptions, 0 ticks and 0 raises" $got 220)
     fi
     verdict "explore: $source, little-endian" "$wrong"
 done
@@ -583,8 +583,8 @@ remembers() {
     shown 8000000f=02 $examples/peterson.cfg "$work/found"
     [ "$(events "$work/found")" = 33 ] || echo -n "; $(events "$work/found") events"
 }
-verdict "explore: no states are remembered" "$(remembers 0 836 836)"
-verdict "explore: 1 MiB of states is remembered" "$(remembers 1 1 835)"
+verdict "explore: no states are remembered" "$(remembers 0 522 522)"
+verdict "explore: 1 MiB of states is remembered" "$(remembers 1 1 521)"
 verdict "explore: 64 MiB of states are remembered" "$(remembers 64 1 400)"
 
 # ---- Shards: together they try what the whole search does; one of them finds
@@ -606,7 +606,7 @@ for of in 1 2 5; do
         explores "$image" $examples/peterson.cfg --word inside=0..1 --events 50 --preemptions 2 --shard "$number/$of"
         [ $? = 0 ] || found=$((found + 1))
     done
-    [ $total = 836 ] || wrong="$wrong; $total schedules"
+    [ $total = 522 ] || wrong="$wrong; $total schedules"
     [ $found -gt 0 ] || wrong="$wrong; no shard finds what the whole search finds"
     verdict "explore: $of shards" "$wrong"
 done
@@ -625,7 +625,7 @@ assembled peterson_right.s
 explores "$image" $examples/peterson.cfg --word inside=0..1 --events 60 --preemptions 9 --time 2
 verdict "explore: time is over" "$(is_over $?)"
 explores "$image" $examples/peterson.cfg --word inside=0..1 --events 50 --preemptions 2 --time 1000000
-verdict "explore: there is time enough" "$(is_none 836 "at most 50 events, 2 preemptions, 0 ticks and 0 raises" $? 371)"
+verdict "explore: there is time enough" "$(is_none 522 "at most 50 events, 2 preemptions, 0 ticks and 0 raises" $? 220)"
 assembled peterson.s
 explores "$image" $examples/peterson.cfg --word inside=0..1 --events 50 --preemptions 2 --time 1000000 \
     --out "$work/found"
@@ -636,7 +636,7 @@ verdict "explore: what is found in time" "$(is_found $?)"
 for threads in 1 2 5 64; do
     assembled peterson_right.s
     explores "$image" $examples/peterson.cfg --word inside=0..1 --events 50 --preemptions 2 --threads $threads
-    wrong=$(is_none 836 "at most 50 events, 2 preemptions, 0 ticks and 0 raises" $? 371)
+    wrong=$(is_none 522 "at most 50 events, 2 preemptions, 0 ticks and 0 raises" $? 220)
     explores "$image" $examples/peterson.cfg --word inside=0..1 --events 50 --preemptions 2 --threads $threads --shard 2/3
     wrong="$wrong$(grep -q '^none of [0-9]* schedules fails' "$work/out" || echo "; shard 2 of 3: $(head -c 300 "$work/out")")"
     assembled peterson.s
