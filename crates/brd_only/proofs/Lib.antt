@@ -4,3 +4,4 @@ pub mod NoneLemmas
 pub mod PathLemmas
 pub mod WalkLemmas
 pub mod SpotLemmas
+pub mod SomeLemmas

@@ -8,7 +8,7 @@ use Rattle.brd_board.specs.declared.event.Event.TheVariants.{Tick}
 use Rattle.brd_board.specs.Board.{BoardState}
 use Rattle.brd_explore.specs.declared.wanted.Wanted.{Wanted}
 use Rattle.brd_explore.specs.Schedules.{Place, does, next, event_at}
-use Rattle.brd_only.specs.declared.region.Region.{Region}
+use Rattle.brd_only.specs.declared.region.Regions.{Regions}
 use Rattle.brd_only.specs.declared.spots.Margin.{Margin}
 use Rattle.brd_only.specs.Spots.{spot_of}
 use Rattle.brd_only.specs.Finding.{IsIn, IsMore, IsKnown, may_go, HeldBy, IsHeld, HaveGone, IsDone, AreDone}
@@ -50,7 +50,7 @@ known-last old new spot is = record {
   richer = rich-same spot;
 }
 
-by-more : (among : List Event) (regions : List Region) (wanted : Wanted) (old new : List Place) (n : ℕ) (p : Place) → IsMore old new →
+by-more : (among : List Event) (regions : Regions) (wanted : Wanted) (old new : List Place) (n : ℕ) (p : Place) → IsMore old new →
     HeldBy among regions wanted old n p → HeldBy among regions wanted new n p
 by-more among regions wanted old new zero p more held = known-more old new p more held
 by-more among regions wanted old new (suc n) p more held = (
@@ -58,15 +58,15 @@ by-more among regions wanted old new (suc n) p more held = (
   λ k less may did. by-more among regions wanted old new n (next p (event_at among k)) more (held.1 k less may did),
 )
 
-pub held-more : (among : List Event) (regions : List Region) (wanted : Wanted) (old new : List Place) (p : Place) → IsMore old new →
+pub held-more : (among : List Event) (regions : Regions) (wanted : Wanted) (old new : List Place) (p : Place) → IsMore old new →
     IsHeld among regions wanted old p → IsHeld among regions wanted new p
 held-more among regions wanted old new p more held = (held.0, by-more among regions wanted old new held.0 p more held.1)
 
-pub known-held : (among : List Event) (regions : List Region) (wanted : Wanted) (spots : List Place) (p : Place) → IsKnown spots p →
+pub known-held : (among : List Event) (regions : Regions) (wanted : Wanted) (spots : List Place) (p : Place) → IsKnown spots p →
     IsHeld among regions wanted spots p
 known-held among regions wanted spots p known = (zero, known)
 
-done-more : (among : List Event) (regions : List Region) (wanted : Wanted) (old new : List Place) (p : Place) → IsMore old new →
+done-more : (among : List Event) (regions : Regions) (wanted : Wanted) (old new : List Place) (p : Place) → IsMore old new →
     IsDone among regions wanted old p → IsDone among regions wanted new p
 done-more among regions wanted old new p more it = record {
   holds = it.holds;
@@ -84,7 +84,7 @@ same-some p q is = cc
 pub less-or-same : (n m : ℕ) → n < m + 1 → (n < m) ⊎ (n ≡ m)
 less-or-same n m less = grind (arith, less)
 
-pub done-next : (among : List Event) (regions : List Region) (wanted : Wanted) (old new : List Place) (at : ℕ) (spot : Place) →
+pub done-next : (among : List Event) (regions : Regions) (wanted : Wanted) (old new : List Place) (at : ℕ) (spot : Place) →
     AreDone among regions wanted old at → IsMore old new → slice_get old at ≡ Some spot → IsDone among regions wanted new spot →
     AreDone among regions wanted new (at + 1)
 done-next among regions wanted old new at spot done more here it k less s is =
@@ -99,7 +99,7 @@ done-next among regions wanted old new at spot done more here it k less s is =
     ]
 
 -- One event more was tried.
-pub gone-next : (among : List Event) (regions : List Region) (wanted : Wanted) (old new : List Place) (p : Place) (i : ℕ) (event : Event) →
+pub gone-next : (among : List Event) (regions : Regions) (wanted : Wanted) (old new : List Place) (p : Place) (i : ℕ) (event : Event) →
     IsMore old new → HaveGone among regions wanted old p i →
     (may_go regions p event ≡ true → does p.board event ≡ true → IsHeld among regions wanted new (next p event)) →
     event ≡ get_or among i event → i < length among → HaveGone among regions wanted new p (i + 1)

@@ -7,18 +7,18 @@ use Rattle.brd_board.specs.declared.event.Event.{Event}
 use Rattle.brd_explore.specs.declared.wanted.Wanted.{Wanted}
 use Rattle.brd_explore.specs.Schedules.{Place, IsRicher, does, next, place_after, event_at, IsAmong, IsWithin}
 use Rattle.brd_explore.specs.Searching.{FailsAt, Fails}
-use Rattle.brd_only.specs.declared.region.Region.{Region}
+use Rattle.brd_only.specs.declared.region.Regions.{Regions}
 use Rattle.brd_only.specs.Only.{KeepsInside, NoneFailsInside}
 use Rattle.brd_only.specs.Finding.{IsKnown, may_go, HeldBy, IsHeld, IsDone, AreDone}
 use Rattle.brd_only.proofs.RichLemmas.{rich-fails, rich-goes, rich-next, rich-same, rich-then}
 
 -- A place is held: one that has been gone through has the same board, and no less is left there.
-record Stands (among : List Event) (regions : List Region) (wanted : Wanted) (spots : List Place) (p : Place) : Type 0 where
+record Stands (among : List Event) (regions : Regions) (wanted : Wanted) (spots : List Place) (p : Place) : Type 0 where
   place : Place
   richer : IsRicher place p
   done : IsDone among regions wanted spots place
 
-stands : (among : List Event) (regions : List Region) (wanted : Wanted) (spots : List Place) (n : ℕ) (p : Place) →
+stands : (among : List Event) (regions : Regions) (wanted : Wanted) (spots : List Place) (n : ℕ) (p : Place) →
     AreDone among regions wanted spots (length spots) → HeldBy among regions wanted spots n p → Stands among regions wanted spots p
 stands among regions wanted spots zero p done known = record {
   place = known.place;
@@ -31,7 +31,7 @@ stands among regions wanted spots (suc n) p done held = record {
   done = record { holds = held.0; gone = λ k less may did. (n, held.1 k less may did) };
 }
 
-goes : (among : List Event) (regions : List Region) (wanted : Wanted) (spots : List Place) (p : Place) (event : Event) →
+goes : (among : List Event) (regions : Regions) (wanted : Wanted) (spots : List Place) (p : Place) (event : Event) →
     IsDone among regions wanted spots p → IsAmong among event → may_go regions p event ≡ true → does p.board event ≡ true →
     IsHeld among regions wanted spots (next p event)
 goes among regions wanted spots p event done one may did =
@@ -40,7 +40,7 @@ goes among regions wanted spots p event done one may did =
     (done.gone one.at one.within (subst (λ e. may_go regions p e ≡ true) (sym is) may)
     (subst (λ e. does p.board e ≡ true) (sym is) did))
 
-none-from : (among : List Event) (regions : List Region) (wanted : Wanted) (spots : List Place) (es : List Event) (n : ℕ) (rich p : Place) →
+none-from : (among : List Event) (regions : Regions) (wanted : Wanted) (spots : List Place) (es : List Event) (n : ℕ) (rich p : Place) →
     wanted.rounds ≡ 0 → AreDone among regions wanted spots (length spots) → HeldBy among regions wanted spots n rich → IsRicher rich p →
     IsWithin among p es → KeepsInside regions p es → Fails wanted p es → ⊥
 none-from among regions wanted spots [] n rich p none done held richer within keeps fails =
@@ -61,7 +61,7 @@ none-from among regions wanted spots (e ∷ es) n rich p none done held richer w
       (subst (λ test. FailsAt wanted (if test then place_after (next p e) es else place_after p es)) not fails)
 ]
 
-pub holds-so : (among : List Event) (regions : List Region) (wanted : Wanted) (spots : List Place) (p : Place) → wanted.rounds ≡ 0 →
+pub holds-so : (among : List Event) (regions : Regions) (wanted : Wanted) (spots : List Place) (p : Place) → wanted.rounds ≡ 0 →
     IsKnown spots p → AreDone among regions wanted spots (length spots) → NoneFailsInside wanted among regions p
 holds-so among regions wanted spots p none known done es within keeps fails =
     none-from among regions wanted spots es zero p p none done known (rich-same p) within keeps fails

@@ -12,8 +12,8 @@ use Rattle.brd_explore.specs.declared.wanted.Wanted.{Wanted}
 use Rattle.brd_explore.specs.Schedules.{Place, does, stepper, affords, affords_one, spent, is_left, next, place_after, IsAmong, IsWithin}
 use Rattle.brd_explore.specs.Failures.{fails_at}
 use Rattle.brd_explore.specs.Searching.{FailsAt}
-use Rattle.brd_only.specs.declared.region.Region.{Region}
-use Rattle.brd_only.specs.Only.{switches_inside, KeepsInside, IsFoundInside}
+use Rattle.brd_only.specs.declared.region.Regions.{Regions}
+use Rattle.brd_only.specs.Only.{keeps_to, KeepsInside, IsFoundInside}
 
 -- One list after the other.
 
@@ -42,7 +42,7 @@ within-then among p (e ∷ es) more first second = (
       (subst (λ test. IsWithin among (if test then place_after (next p e) es else place_after p es) more) none second)),
 )
 
-keeps-then : (regions : List Region) (p : Place) (es more : List Event) → KeepsInside regions p es →
+keeps-then : (regions : Regions) (p : Place) (es more : List Event) → KeepsInside regions p es →
     KeepsInside regions (place_after p es) more → KeepsInside regions p (es ++ more)
 keeps-then regions p [] more first second = second
 keeps-then regions p (e ∷ es) more first second = (
@@ -58,7 +58,7 @@ keeps-then regions p (e ∷ es) more first second = (
 -- A schedule that is followed event by event.
 
 -- it is within the bounds so far, and has led to a place
-pub record HasFollowed (among : List Event) (regions : List Region) (from : Place) (events : List Event) (upto : ℕ) (p : Place) :
+pub record HasFollowed (among : List Event) (regions : Regions) (from : Place) (events : List Event) (upto : ℕ) (p : Place) :
     Type 0 where
   pub within : IsWithin among from (take upto events)
   pub keeps : KeepsInside regions from (take upto events)
@@ -75,13 +75,13 @@ fewer p (Step cpu) left = omega (arith, some-events p (Step cpu) left)
 fewer p Tick left = omega (arith, some-events p Tick left)
 fewer p (Raise line) left = omega (arith, some-events p (Raise line) left)
 
-pub followed-none : (among : List Event) (regions : List Region) (from : Place) (events : List Event) →
+pub followed-none : (among : List Event) (regions : Regions) (from : Place) (events : List Event) →
     HasFollowed among regions from events 0 from
 followed-none among regions from events = record { within = tt; keeps = tt; is = refl; few = omega arith }
 
-followed-more : (among : List Event) (regions : List Region) (from p : Place) (events : List Event) (upto : ℕ) (event : Event) →
+followed-more : (among : List Event) (regions : Regions) (from p : Place) (events : List Event) (upto : ℕ) (event : Event) →
     upto < length events → get_or events upto event ≡ event → HasFollowed among regions from events upto p → IsAmong among event →
-    is_left p event ≡ true → switches_inside regions p.board p.last event ≡ true → does p.board event ≡ true →
+    is_left p event ≡ true → keeps_to regions p.board p.last event ≡ true → does p.board event ≡ true →
     HasFollowed among regions from events (upto + 1) (next p event)
 followed-more among regions from p events upto event less here it one left inside did =
     let more : take (upto + 1) events ≡ take upto events ++ event ∷ [] =
@@ -119,10 +119,10 @@ next-is p event b left last board rest who = λ i. record {
   last = sym (who ∙ ap (λ z. stepper z p.last event) board) i;
 }
 
-pub followed-on : (among : List Event) (regions : List Region) (from p : Place) (events : List Event) (upto : ℕ) (event : Event)
+pub followed-on : (among : List Event) (regions : Regions) (from p : Place) (events : List Event) (upto : ℕ) (event : Event)
     (b : BoardState) (left : Bounds) (last : Option ℕ) → upto < length events → get_or events upto event ≡ event →
     HasFollowed among regions from events upto p → IsAmong among event → is_left p event ≡ true →
-    switches_inside regions p.board p.last event ≡ true → does p.board event ≡ true → b ≡ (happens p.board event).board →
+    keeps_to regions p.board p.last event ≡ true → does p.board event ≡ true → b ≡ (happens p.board event).board →
     left ≡ spent p.left p.last event → last ≡ stepper b p.last event →
     HasFollowed among regions from events (upto + 1) (record { board = b; left = left; last = last })
 followed-on among regions from p events upto event b left last less here it one affords inside did board rest who =
@@ -130,7 +130,7 @@ followed-on among regions from p events upto event b left last less here it one 
     (followed-more among regions from p events upto event less here it one affords inside did)
 
 -- A schedule that was followed to its end, and fails there.
-pub found-so : (wanted : Wanted) (among : List Event) (regions : List Region) (from p : Place) (events : List Event) →
+pub found-so : (wanted : Wanted) (among : List Event) (regions : Regions) (from p : Place) (events : List Event) →
     HasFollowed among regions from events (length events) p → fails_at wanted p.board p.left ≡ true →
     IsFoundInside wanted among regions from events
 found-so wanted among regions from p events it fails =

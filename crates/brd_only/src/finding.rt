@@ -6,7 +6,7 @@ ghost use Rattle.brd_explore.specs.Searching.{HaltsSo};
 ghost use Rattle.brd_only.specs.Only.{FoundSo, IsFoundInside};
 ghost use Rattle.brd_only.specs.Finding.{IsMore, RoundSo};
 
-use crate::region::{Region, switches_inside};
+use crate::region::{Regions, keeps_to};
 use crate::spots::Spots;
 use crate::visit::{Seats, Visited, visit};
 use crate::words::busy_words;
@@ -59,14 +59,14 @@ const NONE: Counts = Counts {
 };
 
 /// Searches the schedules of a board within bounds, of which each event is one of these, for one that fails: among
-/// those on which a step preempts another processor only if the next instruction of that lies in one of the regions.
-/// It goes through so many places at most. Who watches is told through how many it has gone.
+/// those that keep to the regions. It goes through so many places at most. Who watches is told through how many it has
+/// gone.
 pub fn find_inside<W: Watch>(
     alloc: Global,
     board: &Board,
     bounds: Bounds,
     among: &[Event],
-    regions: &[Region],
+    regions: &Regions,
     wanted: &Wanted,
     most: usize,
     watch: &mut W,
@@ -108,7 +108,7 @@ fn visit_all<W: Watch>(
     counts: &mut Counts,
     words: &[u32],
     among: &[Event],
-    regions: &[Region],
+    regions: &Regions,
     wanted: &Wanted,
     most: usize,
     seats: &mut Seats,
@@ -143,7 +143,7 @@ fn found(
     board: &Board,
     bounds: Bounds,
     among: &[Event],
-    regions: &[Region],
+    regions: &Regions,
     wanted: &Wanted,
     spots: &Spots,
     at: usize,
@@ -163,7 +163,7 @@ fn is_found(
     board: &Board,
     bounds: Bounds,
     among: &[Event],
-    regions: &[Region],
+    regions: &Regions,
     wanted: &Wanted,
     events: &[Event],
 ) -> Result<bool, NoMemory>
@@ -177,7 +177,7 @@ fn is_found(
         if !is_among(among, *event) || !left.affords(last, *event) {
             return Ok(false);
         }
-        if !switches_inside(regions, &there, last, *event) {
+        if !keeps_to(regions, &there, last, *event) {
             return Ok(false);
         }
         let rest = left.spent(last, *event);

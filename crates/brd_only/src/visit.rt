@@ -5,7 +5,7 @@ ghost use Rattle.brd_explore.specs.Schedules.{Place as PlaceOf, does, next};
 ghost use Rattle.brd_only.specs.Spots.{spot_of};
 ghost use Rattle.brd_only.specs.Finding.{HaveGone, IsHeld, IsMore, VisitedSo};
 
-use crate::region::Region;
+use crate::region::Regions;
 use crate::spots::{Margin, Spots};
 use crate::walk::{go_on, may_go};
 use crate::words::memory_of;
@@ -53,7 +53,7 @@ pub(crate) fn visit(
     at: usize,
     words: &[u32],
     among: &[Event],
-    regions: &[Region],
+    regions: &Regions,
     wanted: &Wanted,
     seats: &mut Seats,
 ) -> Result<Visited, NoMemory>
@@ -92,7 +92,7 @@ fn try_all(
     margin: Margin,
     words: &[u32],
     among: &[Event],
-    regions: &[Region],
+    regions: &Regions,
     wanted: &Wanted,
     last: &mut Board,
 ) -> Result<(), NoMemory>
@@ -139,7 +139,7 @@ fn try_event(
     margin: Margin,
     words: &[u32],
     among: &[Event],
-    regions: &[Region],
+    regions: &Regions,
     wanted: &Wanted,
     event: Event,
     last: &mut Board,
@@ -164,7 +164,7 @@ fn go_by(
     margin: Margin,
     words: &[u32],
     among: &[Event],
-    regions: &[Region],
+    regions: &Regions,
     wanted: &Wanted,
     event: Event,
 ) -> Result<(), NoMemory>

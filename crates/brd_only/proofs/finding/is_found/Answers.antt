@@ -14,7 +14,7 @@ loop-event-preserved c =
     c.event_apart.new.self c.spent-rest.result c.stepper-last.result c.loop-event-test.true
     (sym (get_or_default c.args.events.now c.loop-event.event-index (Step 0) _ c.loop-event-test.true)) c.loop-event.invariant
     (c.is_among.ensures c.if-not-is_among.false) (sym c.affords.ensures ∙ c.if-not-affords.false)
-    (sym c.switches_inside.ensures ∙ c.if-not-switches_inside.false)
+    (sym c.keeps_to.ensures ∙ c.if-not-keeps_to.false)
     (done-nothing c.loop-event.there c.loop-event.there _ (record { board = c.event_apart.new.self; report = c.event_apart.result })
     c.did_nothing.result c.event_apart.ensures refl c.did_nothing.ensures ∙ ap not c.if-did_nothing.false)
     (ap (λ (done : Happened). done.board) c.event_apart.ensures) c.spent-rest.ensures c.stepper-last.ensures
