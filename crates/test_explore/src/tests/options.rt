@@ -45,6 +45,7 @@ const OPTIONS: SearchOptions = SearchOptions {
     memory: 0,
     values: None,
     only: None,
+    raises_at: None,
 };
 
 /// Options, and what is wrong with them.
