@@ -212,7 +212,8 @@ fn regions_said(
 
 /// It is said where lines may be raised only if some may be.
 fn check_raises_at(options: &SearchOptions<'_>, most: u32) -> Result<(), SearchFault>
-    ensures { MatchResult result (λ _. raises_fit options.now most ≡ true) (IsOfNoRaises (raises_fit options.now most)) }
+    ensures { MatchResult result (λ _. raises_fit options.now most ≡ true)
+        (IsOfNoRaises (raises_fit options.now most)) }
 {
     if options.raises_at.is_none() || most != 0 {
         return Ok(());

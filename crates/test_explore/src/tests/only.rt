@@ -90,9 +90,8 @@ const HANDLES: Region = Region {
     upto: 0x8000_0040,
 };
 
-/// An update is lost only by a preemption between the load and the store. Who preempts is about to execute the first
-/// instruction, which lies in none of the regions but the one before the load. With a handler it is lost only by a raise
-/// there.
+/// An update is lost only by a preemption between the load and the store, or with a handler by a raise there. Who
+/// preempts is about to execute the first instruction, which lies in none of the regions but the one before the load.
 const CASES: &[Case] = &[
     Case {
         source: LOST_UPDATE,
