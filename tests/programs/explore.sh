@@ -131,7 +131,7 @@ without() {
         case $1 in
         --shortest) ;;
         --events | --preemptions | --ticks | --raises | --lines) shift ;;
-        --shard | --remember | --threads | --time | --lazy | --only) shift ;;
+        --shard | --remember | --threads | --time | --lazy | --only | --raises-at) shift ;;
         *) options+=("$1") ;;
         esac
         shift
@@ -669,16 +669,19 @@ for source in readers_right readers; do
 done
 how=(--memory 0)
 
-# ---- Preemptions in some regions alone
+# ---- Preemptions and raises in some regions alone
 
-# is_none_inside REGIONS BOUNDS STATUS: what is wrong with such a search that should have found none.
+# is_none_inside REGIONS BOUNDS STATUS: what is wrong with such a search that should have found none, and tells its
+# regions by these lines.
 is_none_inside() {
+    local lines
+    lines=$(wc -l <<< "$1")
     [ "$3" = 0 ] || echo -n "; status $3, wanted 0: $(head -c 300 "$work/err")"
     [ ! -s "$work/err" ] || echo -n "; standard error is '$(head -c 300 "$work/err")'"
     [ "$(head -n 1 "$work/out")" = "none of the schedules fails: $2" ] &&
-        [ "$(sed -n 2p "$work/out")" = "switches only in $1" ] &&
-        sed -n 3p "$work/out" | grep -q '^looked for: .' &&
-        sed -n 4p "$work/out" | grep -qE "^[0-9]+ places? w(as|ere) gone through, (1 is an end|[0-9]+ are ends)$cut\$" ||
+        [ "$(sed -n "2,$((lines + 1))p" "$work/out")" = "$1" ] &&
+        sed -n "$((lines + 2))p" "$work/out" | grep -q '^looked for: .' &&
+        sed -n "$((lines + 3))p" "$work/out" | grep -qE "^[0-9]+ places? w(as|ere) gone through, (1 is an end|[0-9]+ are ends)$cut\$" ||
         echo -n "; it says '$(head -c 300 "$work/out")'"
 }
 
@@ -691,7 +694,7 @@ done
 while IFS='|' read -r regions told; do
     for preemptions in 1 2; do
         explores "$image" $examples/lost_update.cfg --word count=2 --preemptions $preemptions --only $regions
-        wrong=$(is_none_inside "$told" "$(bounds --preemptions $preemptions)" $?)
+        wrong=$(is_none_inside "switches only in $told" "$(bounds --preemptions $preemptions)" $?)
         verdict "explore: lost_update.s --only $regions --preemptions $preemptions" "$wrong"
     done
 done << 'END'
@@ -700,7 +703,37 @@ count..main,0x80000014..0x80000020|count..main, main+0x10..main+0x1c
 END
 explores "$image" $examples/lost_update.cfg --word count=2 --only main..0x8000000c --memory 0
 check "explore: --only without memory" 2 "$work/nothing" \
-    "board: the search: not known: --only leaves more places than --memory holds" $?
+    "board: the search: not known: there are more places than --memory holds" $?
+
+# With --raises-at alone a processor may be preempted anywhere, also where no line may be raised: nobody comes there.
+{ cat $examples/lost_update.cfg && echo 'DEF_INH(3, {TA_ASM, main});'; } > "$work/raised.cfg"
+finds "lost_update.s --raises-at" "$work/raised.cfg" 1 12 80000003=01 --word count=2 --shortest --raises 0..1 --lines 3 \
+    --raises-at 0x80000020..0x80000024
+
+# A handler takes an update away where its line is raised behind the task's load (at main+0x4), up to its store.
+assembled interrupt.s
+raised=(--word count=2 --raises 1 --lines 3)
+for regions in 0x8000000c..0x80000014 0x80000010..0x80000014 main..0x80000008,0x80000010..0x80000014; do
+    finds "interrupt.s --raises-at $regions" $examples/interrupt.cfg 0 14 80000003=01 "${raised[@]}" --shortest \
+        --raises-at $regions
+done
+finds "interrupt.s --only and --raises-at" $examples/interrupt.cfg 0 14 80000003=01 "${raised[@]}" --only main..handle \
+    --raises-at 0x8000000c..0x80000014
+while IFS='|' read -r regions told; do
+    explores "$image" $examples/interrupt.cfg "${raised[@]}" --raises-at $regions
+    wrong=$(is_none_inside "raises only in $told" "$(bounds --raises 1)" $?)
+    verdict "explore: interrupt.s --raises-at $regions" "$wrong"
+    explores "$image" $examples/interrupt.cfg "${raised[@]}" --only main..handle --raises-at $regions
+    wrong=$(is_none_inside "switches only in main..handle"$'\n'"raises only in $told" "$(bounds --raises 1)" $?)
+    verdict "explore: interrupt.s --only main..handle --raises-at $regions" "$wrong"
+done << 'END'
+main..0x8000000c|main..main+0x8
+main..0x80000008,0x80000014..handle|main..main+0x4, main+0x10..handle
+handle..0x80000034|handle..handle+0x18
+END
+explores "$image" $examples/interrupt.cfg "${raised[@]}" --raises-at main..handle --memory 0
+check "explore: --raises-at without memory" 2 "$work/nothing" \
+    "board: the search: not known: there are more places than --memory holds" $?
 how=(--memory 0)
 
 # ---- Options that have no meaning
@@ -736,20 +769,32 @@ for option in "--fair 1" "--remember 1" "--shard 1/1" "--places 10"; do
     refuses "--lazy goes with none of --fair, --places, --remember and --shard" --lazy 10 $option
 done
 refuses "not known: there are more than --lazy places" --lazy 1
-only="--only has regions of instructions with commas between them, as push..pop: from a place up to, not including, another one, each a symbol of the object file, or 0x and a hexadecimal address"
-for wrong in '' main count.main count..0x count..4294967296 'count..main,' ',count..main' 0x80000000.; do
-    refuses "$only" --only "$wrong"
+regions="has regions of instructions with commas between them, as push..pop: from a place up to, not including, another one, each a symbol of the object file, or 0x and a hexadecimal address"
+# Of what is said of raises a line has a handler.
+handled=("$work/interrupt.s.elf" $examples/interrupt.cfg)
+for option in --only --raises-at; do
+    [ $option = --only ] || files=("${handled[@]}")
+    raised=(--raises 1 --lines 3)
+    [ $option = --raises-at ] || raised=()
+    for wrong in '' main count.main count..0x count..4294967296 'count..main,' ',count..main' 0x80000000.; do
+        refuses "$option $regions" "${raised[@]}" $option "$wrong"
+    done
+    for wrong in ..main count.. count..nothing nothing..main; do
+        refuses "$option names a symbol that the object file doesn't have" "${raised[@]}" $option "$wrong"
+    done
+    for wrong in main..count count..count main..0x80000004; do
+        refuses "$option has a region whose end isn't above its start" "${raised[@]}" $option "$wrong"
+    done
+    refuses "$option has a region twice" "${raised[@]}" $option count..main,main..0x80000008,0x80000000..0x80000004
+    for other in "--fair 1" "--remember 1" "--shard 1/1" "--threads 2" "--places 10" "--lazy 10"; do
+        refuses "--only and --raises-at go with none of --fair, --lazy, --places, --remember, --shard and --threads" \
+            "${raised[@]}" $option count..main $other
+    done
 done
-for wrong in ..main count.. count..nothing nothing..main; do
-    refuses "--only names a symbol that the object file doesn't have" --only "$wrong"
+for none in "" "--raises 0" "--only count..main"; do
+    refuses "--raises-at says where lines may be raised, and --raises how often" --raises-at count..main $none
 done
-for wrong in main..count count..count main..0x80000004; do
-    refuses "--only has a region whose end isn't above its start" --only "$wrong"
-done
-refuses "--only has a region twice" --only count..main,main..0x80000008,0x80000000..0x80000004
-for option in "--fair 1" "--remember 1" "--shard 1/1" "--threads 2" "--places 10" "--lazy 10"; do
-    refuses "--only goes with none of --fair, --lazy, --places, --remember, --shard and --threads" --only count..main $option
-done
+files=("$image" $examples/lost_update.cfg)
 refuses "--livelock and --finals go with --places" --livelock
 refuses "--livelock and --finals go with --places" --finals
 refuses "--values goes with --finals" --places 1000 --values count

@@ -158,6 +158,7 @@ AreSearchOptions rows options = AreSizes rows options.sizes
     × IsNumberOr 512 (one_of (codes "MEMORY") rows) options.memory
     × (option_map (λ text. text.now) options.values ≡ first_of (codes "VALUES") rows)
     × (option_map (λ text. text.now) options.only ≡ first_of (codes "REGIONS") rows)
+    × (option_map (λ text. text.now) options.raises_at ≡ first_of (codes "WHERE") rows)
 
 -- the request of `explore`
 abbrev pub IsExplore : List Row → Option Request → Type 0

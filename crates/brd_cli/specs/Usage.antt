@@ -137,8 +137,8 @@ searching =
     ∷ count (codes "SECONDS") (codes "time") ∷ count (codes "THREADS") (codes "threads")
     ∷ count (codes "PLACES") (codes "places") ∷ flag (codes "livelock") ∷ flag (codes "finals")
     ∷ option (codes "VALUES") (codes "values") ∷ count (codes "MOST") (codes "lazy")
-    ∷ count (codes "MEMORY") (codes "memory") ∷ option (codes "REGIONS") (codes "only") ∷ option (codes "OUT") (codes "out")
-    ∷ data_option ∷ []
+    ∷ count (codes "MEMORY") (codes "memory") ∷ option (codes "REGIONS") (codes "only")
+    ∷ option (codes "WHERE") (codes "raises-at") ∷ option (codes "OUT") (codes "out") ∷ data_option ∷ []
 
 -- `explore` and `shrink` take their options before, between or after their files
 abbrev pub explore : App

@@ -306,6 +306,7 @@ fn search_options_of<'a>(arguments: &ArgMatches<'a>) -> SearchOptions<'a>
         memory: number_or(arguments, "MEMORY", USUAL_MEMORY),
         values: text_of(arguments, "VALUES"),
         only: text_of(arguments, "REGIONS"),
+        raises_at: text_of(arguments, "WHERE"),
     }
 }
 

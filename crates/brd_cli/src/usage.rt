@@ -123,8 +123,8 @@ is told, OUT gets its journal, and the status is 5; if none does, that is told, 
 With --places there is no bound on events and preemptions: all schedules are searched.
 Orders that nobody can tell from each other are searched once, and places are remembered. With --fair,
 --remember, --shard, --memory 0, or if --memory doesn't suffice, schedules are searched one by one, by
-one thread unless --threads says more. What is told is of all schedules in any case; with --only, of
-those that preempt nobody elsewhere.
+one thread unless --threads says more. What is told is of all schedules in any case; with --only or
+--raises-at, of those that keep to the regions.
 
 Example, from the top of the repository:
   board asm examples/lost_update/racy.s build/racy.elf
@@ -620,6 +620,12 @@ fn with_search<'a>(alloc: Global, command: Command<'a>) -> Result<Command<'a>, N
             "REGIONS",
             "only",
             "Preempts a processor only at instructions from a label up to another one, as push..pop",
+        ))?
+        .arg(option(
+            alloc,
+            "WHERE",
+            "raises-at",
+            "Raises lines only while some processor is at instructions from a label up to another one",
         ))?
         .arg(option(
             alloc,

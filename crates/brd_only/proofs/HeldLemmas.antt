@@ -9,10 +9,10 @@ use Rattle.brd_explore.specs.declared.wanted.Wanted.{Wanted}
 use Rattle.brd_explore.specs.Schedules.{Place, does, next, event_at}
 use Rattle.brd_spots.specs.Spots.{IsMore, IsKnown}
 use Rattle.brd_spots.proofs.KnownLemmas.{known-more, less-or-same, same-some, spot-more, there-is}
-use Rattle.brd_only.specs.declared.region.Region.{Region}
+use Rattle.brd_only.specs.declared.region.Regions.{Regions}
 use Rattle.brd_only.specs.Finding.{may_go, HeldBy, IsHeld, HaveGone, IsDone, AreDone}
 
-by-more : (among : List Event) (regions : List Region) (wanted : Wanted) (old new : List Place) (n : ℕ) (p : Place) →
+by-more : (among : List Event) (regions : Regions) (wanted : Wanted) (old new : List Place) (n : ℕ) (p : Place) →
     IsMore old new → HeldBy among regions wanted old n p → HeldBy among regions wanted new n p
 by-more among regions wanted old new zero p more held = known-more old new p more held
 by-more among regions wanted old new (suc n) p more held = (
@@ -21,16 +21,16 @@ by-more among regions wanted old new (suc n) p more held = (
       by-more among regions wanted old new n (next p (event_at among k)) more (held.1 k less may did),
 )
 
-pub held-more : (among : List Event) (regions : List Region) (wanted : Wanted) (old new : List Place) (p : Place) →
+pub held-more : (among : List Event) (regions : Regions) (wanted : Wanted) (old new : List Place) (p : Place) →
     IsMore old new → IsHeld among regions wanted old p → IsHeld among regions wanted new p
 held-more among regions wanted old new p more held =
     (held.0, by-more among regions wanted old new held.0 p more held.1)
 
-pub known-held : (among : List Event) (regions : List Region) (wanted : Wanted) (spots : List Place) (p : Place) →
+pub known-held : (among : List Event) (regions : Regions) (wanted : Wanted) (spots : List Place) (p : Place) →
     IsKnown spots p → IsHeld among regions wanted spots p
 known-held among regions wanted spots p known = (zero, known)
 
-done-more : (among : List Event) (regions : List Region) (wanted : Wanted) (old new : List Place) (p : Place) →
+done-more : (among : List Event) (regions : Regions) (wanted : Wanted) (old new : List Place) (p : Place) →
     IsMore old new → IsDone among regions wanted old p → IsDone among regions wanted new p
 done-more among regions wanted old new p more it = record {
   holds = it.holds;
@@ -38,7 +38,7 @@ done-more among regions wanted old new p more it = record {
       held-more among regions wanted old new (next p (event_at among k)) more (it.gone k less may did);
 }
 
-pub done-next : (among : List Event) (regions : List Region) (wanted : Wanted) (old new : List Place) (at : ℕ)
+pub done-next : (among : List Event) (regions : Regions) (wanted : Wanted) (old new : List Place) (at : ℕ)
     (spot : Place) → AreDone among regions wanted old at → IsMore old new → slice_get old at ≡ Some spot →
     IsDone among regions wanted new spot → AreDone among regions wanted new (at + 1)
 done-next among regions wanted old new at spot done more here it k less s is =
@@ -55,7 +55,7 @@ done-next among regions wanted old new at spot done more here it k less s is =
     ]
 
 -- One event more was tried.
-pub gone-next : (among : List Event) (regions : List Region) (wanted : Wanted) (old new : List Place) (p : Place)
+pub gone-next : (among : List Event) (regions : Regions) (wanted : Wanted) (old new : List Place) (p : Place)
     (i : ℕ) (event : Event) → IsMore old new → HaveGone among regions wanted old p i →
     (may_go regions p event ≡ true → does p.board event ≡ true → IsHeld among regions wanted new (next p event)) →
     event ≡ get_or among i event → i < length among → HaveGone among regions wanted new p (i + 1)

@@ -2,3 +2,4 @@ pub mod HeldLemmas
 pub mod NoneLemmas
 pub mod PathLemmas
 pub mod WalkLemmas
+pub mod SomeLemmas

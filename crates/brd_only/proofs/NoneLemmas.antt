@@ -10,24 +10,24 @@ use Rattle.brd_explore.specs.Searching.{FailsAt, Fails}
 use Rattle.brd_explore.proofs.RichLemmas.{rich-fails, rich-left, rich-next}
 use Rattle.brd_spots.specs.Spots.{IsKnown}
 use Rattle.brd_spots.proofs.KnownLemmas.{rich-same, rich-then}
-use Rattle.brd_only.specs.declared.region.Region.{Region}
-use Rattle.brd_only.specs.Only.{switches_inside, KeepsInside, NoneFailsInside}
+use Rattle.brd_only.specs.declared.region.Regions.{Regions}
+use Rattle.brd_only.specs.Only.{keeps_to, KeepsInside, NoneFailsInside}
 use Rattle.brd_only.specs.Finding.{may_go, HeldBy, IsHeld, IsDone, AreDone}
 
 -- what may come from the place with less may come from the one with more
-rich-goes : (regions : List Region) (rich poor : Place) (e : Event) → IsRicher rich poor → is_left poor e ≡ true →
-    switches_inside regions poor.board poor.last e ≡ true → may_go regions rich e ≡ true
+rich-goes : (regions : Regions) (rich poor : Place) (e : Event) → IsRicher rich poor → is_left poor e ≡ true →
+    keeps_to regions poor.board poor.last e ≡ true → may_go regions rich e ≡ true
 rich-goes regions rich poor e r left inside =
-    and_from (is_left rich e) (switches_inside regions rich.board rich.last e) (rich-left rich poor e r left)
-    ((λ i. switches_inside regions (r.board i) (r.last i) e) ∙ inside)
+    and_from (is_left rich e) (keeps_to regions rich.board rich.last e) (rich-left rich poor e r left)
+    ((λ i. keeps_to regions (r.board i) (r.last i) e) ∙ inside)
 
 -- A place is held: one that has been gone through has the same board, and no less is left there.
-record Stands (among : List Event) (regions : List Region) (wanted : Wanted) (spots : List Place) (p : Place) : Type 0 where
+record Stands (among : List Event) (regions : Regions) (wanted : Wanted) (spots : List Place) (p : Place) : Type 0 where
   place : Place
   richer : IsRicher place p
   done : IsDone among regions wanted spots place
 
-stands : (among : List Event) (regions : List Region) (wanted : Wanted) (spots : List Place) (n : ℕ) (p : Place) →
+stands : (among : List Event) (regions : Regions) (wanted : Wanted) (spots : List Place) (n : ℕ) (p : Place) →
     AreDone among regions wanted spots (length spots) → HeldBy among regions wanted spots n p → Stands among regions wanted spots p
 stands among regions wanted spots zero p done known = record {
   place = known.place;
@@ -40,7 +40,7 @@ stands among regions wanted spots (suc n) p done held = record {
   done = record { holds = held.0; gone = λ k less may did. (n, held.1 k less may did) };
 }
 
-goes : (among : List Event) (regions : List Region) (wanted : Wanted) (spots : List Place) (p : Place) (event : Event) →
+goes : (among : List Event) (regions : Regions) (wanted : Wanted) (spots : List Place) (p : Place) (event : Event) →
     IsDone among regions wanted spots p → IsAmong among event → may_go regions p event ≡ true → does p.board event ≡ true →
     IsHeld among regions wanted spots (next p event)
 goes among regions wanted spots p event done one may did =
@@ -49,7 +49,7 @@ goes among regions wanted spots p event done one may did =
     (done.gone one.at one.within (subst (λ e. may_go regions p e ≡ true) (sym is) may)
     (subst (λ e. does p.board e ≡ true) (sym is) did))
 
-none-from : (among : List Event) (regions : List Region) (wanted : Wanted) (spots : List Place) (es : List Event) (n : ℕ) (rich p : Place) →
+none-from : (among : List Event) (regions : Regions) (wanted : Wanted) (spots : List Place) (es : List Event) (n : ℕ) (rich p : Place) →
     wanted.rounds ≡ 0 → AreDone among regions wanted spots (length spots) → HeldBy among regions wanted spots n rich → IsRicher rich p →
     IsWithin among p es → KeepsInside regions p es → Fails wanted p es → ⊥
 none-from among regions wanted spots [] n rich p none done held richer within keeps fails =
@@ -70,7 +70,7 @@ none-from among regions wanted spots (e ∷ es) n rich p none done held richer w
       (subst (λ test. FailsAt wanted (if test then place_after (next p e) es else place_after p es)) not fails)
 ]
 
-pub holds-so : (among : List Event) (regions : List Region) (wanted : Wanted) (spots : List Place) (p : Place) → wanted.rounds ≡ 0 →
+pub holds-so : (among : List Event) (regions : Regions) (wanted : Wanted) (spots : List Place) (p : Place) → wanted.rounds ≡ 0 →
     IsKnown spots p → AreDone among regions wanted spots (length spots) → NoneFailsInside wanted among regions p
 holds-so among regions wanted spots p none known done es within keeps fails =
     none-from among regions wanted spots es zero p p none done known (rich-same p) within keeps fails

@@ -5,11 +5,11 @@ use Rattle.brd_board.specs.declared.event.Event.{Event}
 use Rattle.brd_explore.specs.Schedules.{Place, next, place_after}
 use Rattle.brd_spots.specs.Playing.{IsPlayed}
 use Rattle.brd_spots.proofs.PlayLemmas as play
-use Rattle.brd_only.specs.declared.region.Region.{Region}
-use Rattle.brd_only.specs.Only.{switches_inside, KeepsInside}
+use Rattle.brd_only.specs.declared.region.Regions.{Regions}
+use Rattle.brd_only.specs.Only.{keeps_to, KeepsInside}
 
 -- One list after the other.
-keeps-then : (regions : List Region) (p : Place) (es more : List Event) → KeepsInside regions p es →
+keeps-then : (regions : Regions) (p : Place) (es more : List Event) → KeepsInside regions p es →
     KeepsInside regions (place_after p es) more → KeepsInside regions p (es ++ more)
 keeps-then regions p [] more first second = second
 keeps-then regions p (e ∷ es) more first second = (
@@ -25,14 +25,14 @@ keeps-then regions p (e ∷ es) more first second = (
 )
 
 -- A schedule that is played, and keeps to the regions so far.
-pub record HasKept (among : List Event) (regions : List Region) (from : Place) (events : List Event) (upto : ℕ)
+pub record HasKept (among : List Event) (regions : Regions) (from : Place) (events : List Event) (upto : ℕ)
     (p : Place) : Type 0 where
   pub played : play.HasPlayed among from events upto p
   pub keeps : KeepsInside regions from (take upto events)
 
-pub kept-on : (among : List Event) (regions : List Region) (from p to : Place) (events : List Event) (upto : ℕ)
+pub kept-on : (among : List Event) (regions : Regions) (from p to : Place) (events : List Event) (upto : ℕ)
     (event : Event) → upto < length events → get_or events upto event ≡ event →
-    HasKept among regions from events upto p → switches_inside regions p.board p.last event ≡ true →
+    HasKept among regions from events upto p → keeps_to regions p.board p.last event ≡ true →
     IsPlayed among p event to → HasKept among regions from events (upto + 1) to
 kept-on among regions from p to events upto event less here it inside one = record {
   played = play.played-on among from p to events upto event less here it.played one;

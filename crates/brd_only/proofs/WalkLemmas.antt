@@ -11,7 +11,7 @@ use Rattle.brd_explore.specs.Schedules.{Place, does, stepper, spent, next}
 use Rattle.brd_spots.specs.declared.spots.Margin.{Margin}
 use Rattle.brd_spots.specs.Spots.{spot_of, IsKnown}
 use Rattle.brd_spots.proofs.PlayLemmas.{next-is}
-use Rattle.brd_only.specs.declared.region.Region.{Region}
+use Rattle.brd_only.specs.declared.region.Regions.{Regions}
 use Rattle.brd_only.specs.Finding.{IsAlone, HeldBy, IsHeld, HasWalked}
 use Rattle.brd_only.proofs.HeldLemmas.{known-held}
 
@@ -25,7 +25,7 @@ plus-one : (n : ℕ) → suc n ≡ n + 1
 plus-one n = omega arith
 
 -- Where no other event may come, a place is held if the next one is.
-pub alone-held : (among : List Event) (regions : List Region) (wanted : Wanted) (spots : List Place) (p : Place) (event : Event) →
+pub alone-held : (among : List Event) (regions : Regions) (wanted : Wanted) (spots : List Place) (p : Place) (event : Event) →
     fails_at wanted p.board p.left ≡ false → IsAlone among regions p event → IsHeld among regions wanted spots (next p event) →
     IsHeld among regions wanted spots p
 alone-held among regions wanted spots p event holds alone held = (
@@ -37,7 +37,7 @@ alone-held among regions wanted spots p event holds alone held = (
 )
 
 -- It is held too if that one does nothing.
-pub over-held : (among : List Event) (regions : List Region) (wanted : Wanted) (spots : List Place) (p : Place) (event : Event) →
+pub over-held : (among : List Event) (regions : Regions) (wanted : Wanted) (spots : List Place) (p : Place) (event : Event) →
     fails_at wanted p.board p.left ≡ false → IsAlone among regions p event → does p.board event ≡ false →
     IsHeld among regions wanted spots p
 over-held among regions wanted spots p event holds alone none = (
@@ -48,11 +48,11 @@ over-held among regions wanted spots p event holds alone none = (
   ),
 )
 
-pub walked-none : (among : List Event) (regions : List Region) (wanted : Wanted) (p : Place) (event : Event) →
+pub walked-none : (among : List Event) (regions : Regions) (wanted : Wanted) (p : Place) (event : Event) →
     HasWalked among regions wanted p event p 0
 walked-none among regions wanted p event = record { board = refl; held = λ spots held. held; few = omega arith }
 
-pub walked-more : (among : List Event) (regions : List Region) (wanted : Wanted) (from p : Place) (event : Event) (count : ℕ)
+pub walked-more : (among : List Event) (regions : Regions) (wanted : Wanted) (from p : Place) (event : Event) (count : ℕ)
     (b : BoardState) (left : Bounds) (last : Option ℕ) → HasWalked among regions wanted from event p count → count < 10000 →
     fails_at wanted p.board p.left ≡ false → IsAlone among regions p event → b ≡ (happens p.board event).board →
     left ≡ spent p.left p.last event → last ≡ stepper b p.last event →
@@ -72,7 +72,7 @@ on-ok : {E A : Type 0} (result : Result A E) (P Q : Type 0) → (P → Q) → On
 on-ok (Ok done) P Q f it = f it
 on-ok (Err fault) P Q f it = tt
 
-pub walked-held : {E A : Type 0} (among : List Event) (regions : List Region) (wanted : Wanted) (spots : List Place) (p : Place)
+pub walked-held : {E A : Type 0} (among : List Event) (regions : Regions) (wanted : Wanted) (spots : List Place) (p : Place)
     (event : Event) (first b : BoardState) (rest margin : Margin) (count : ℕ) (result : Result A E) → first ≡ (happens p.board event).board →
     rest.left ≡ spent p.left p.last event → rest.last ≡ stepper first p.last event →
     HasWalked among regions wanted (spot_of first rest) event (spot_of b margin) count → OnOk result (IsKnown spots (spot_of b margin)) →
@@ -83,14 +83,14 @@ walked-held among regions wanted spots p event first b rest margin count result 
     (walked.held spots (known-held among regions wanted spots (spot_of b margin) it))) known
 
 -- Nothing comes behind the next place.
-pub over-next : (among : List Event) (regions : List Region) (wanted : Wanted) (p : Place) (event : Event) (first : BoardState)
+pub over-next : (among : List Event) (regions : Regions) (wanted : Wanted) (p : Place) (event : Event) (first : BoardState)
     (rest : Margin) → first ≡ (happens p.board event).board → rest.left ≡ spent p.left p.last event →
     rest.last ≡ stepper first p.last event → ((spots : List Place) → IsHeld among regions wanted spots (spot_of first rest)) →
     (spots : List Place) → IsHeld among regions wanted spots (next p event)
 over-next among regions wanted p event first rest board left last over spots =
     subst (IsHeld among regions wanted spots) (sym (next-is p event first rest.left rest.last board left last)) (over spots)
 
-pub walked-leads : (among : List Event) (regions : List Region) (wanted : Wanted) (b first there : BoardState) (event : Event)
+pub walked-leads : (among : List Event) (regions : Regions) (wanted : Wanted) (b first there : BoardState) (event : Event)
     (rest margin : Margin) (count : ℕ) → first ≡ (happens b event).board →
     HasWalked among regions wanted (spot_of first rest) event (spot_of there margin) count →
     there ≡ after b (replicate (count + 1) event)

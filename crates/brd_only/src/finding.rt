@@ -7,7 +7,7 @@ ghost use Rattle.brd_only.specs.Only.{FoundSo, IsFoundInside};
 ghost use Rattle.brd_only.specs.Finding.{RoundSo};
 ghost use Rattle.brd_spots.specs.Spots.{IsMore};
 
-use crate::region::{Region, switches_inside};
+use crate::region::{Regions, keeps_to};
 use crate::visit::{Visited, visit};
 use crate::words::busy_words;
 use brd_base::NoMemory;
@@ -60,14 +60,14 @@ const NONE: Counts = Counts {
 };
 
 /// Searches the schedules of a board within bounds, of which each event is one of these, for one that fails: among
-/// those on which a step preempts another processor only if the next instruction of that lies in one of the regions.
-/// It goes through so many places at most. Who watches is told through how many it has gone.
+/// those that keep to the regions. It goes through so many places at most. Who watches is told through how many it has
+/// gone.
 pub fn find_inside<W: Watch>(
     alloc: Global,
     board: &Board,
     bounds: Bounds,
     among: &[Event],
-    regions: &[Region],
+    regions: &Regions,
     wanted: &Wanted,
     most: usize,
     watch: &mut W,
@@ -109,7 +109,7 @@ fn visit_all<W: Watch>(
     counts: &mut Counts,
     words: &[u32],
     among: &[Event],
-    regions: &[Region],
+    regions: &Regions,
     wanted: &Wanted,
     most: usize,
     seats: &mut Seats,
@@ -144,7 +144,7 @@ fn found(
     board: &Board,
     bounds: Bounds,
     among: &[Event],
-    regions: &[Region],
+    regions: &Regions,
     wanted: &Wanted,
     spots: &Spots,
     at: usize,
@@ -164,7 +164,7 @@ fn is_found(
     board: &Board,
     bounds: Bounds,
     among: &[Event],
-    regions: &[Region],
+    regions: &Regions,
     wanted: &Wanted,
     events: &[Event],
 ) -> Result<bool, NoMemory>
@@ -177,7 +177,7 @@ fn is_found(
         last: None,
     };
     for event in events {
-        if !switches_inside(regions, &there, margin.last, *event) {
+        if !keeps_to(regions, &there, margin.last, *event) {
             return Ok(false);
         }
         let Some(rest) = play(&mut there, margin, among, *event) else {

@@ -5,7 +5,7 @@ ghost use Rattle.brd_explore.specs.Schedules.{Place as PlaceOf, does, next};
 ghost use Rattle.brd_only.specs.Finding.{HaveGone, IsHeld, VisitedSo};
 ghost use Rattle.brd_spots.specs.Spots.{spot_of, IsMore};
 
-use crate::region::Region;
+use crate::region::Regions;
 use crate::walk::{go_on, may_go};
 use brd_base::NoMemory;
 use brd_board::{Board, Event};
@@ -33,7 +33,7 @@ pub(crate) fn visit(
     at: usize,
     words: &[u32],
     among: &[Event],
-    regions: &[Region],
+    regions: &Regions,
     wanted: &Wanted,
     seats: &mut Seats,
 ) -> Result<Visited, NoMemory>
@@ -73,7 +73,7 @@ fn try_all(
     margin: Margin,
     words: &[u32],
     among: &[Event],
-    regions: &[Region],
+    regions: &Regions,
     wanted: &Wanted,
     last: &mut Board,
     spare: &mut Board,
@@ -121,7 +121,7 @@ fn try_event(
     margin: Margin,
     words: &[u32],
     among: &[Event],
-    regions: &[Region],
+    regions: &Regions,
     wanted: &Wanted,
     event: Event,
     last: &mut Board,
@@ -147,7 +147,7 @@ fn go_by(
     margin: Margin,
     words: &[u32],
     among: &[Event],
-    regions: &[Region],
+    regions: &Regions,
     wanted: &Wanted,
     event: Event,
     spare: &mut Board,

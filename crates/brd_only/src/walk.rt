@@ -4,7 +4,7 @@ ghost use Rattle.std.specs.Prelude.{◌≡◌, true, false, IfOk};
 ghost use Rattle.brd_only.specs.Finding.{IsAlone, WalkedSo, may_go};
 ghost use Rattle.brd_spots.specs.Spots.{spot_of};
 
-use crate::region::{Region, switches_inside};
+use crate::region::{Regions, keeps_to};
 use brd_base::NoMemory;
 use brd_board::{Board, Event};
 use brd_explore::{Wanted, did_nothing, stepper};
@@ -29,7 +29,7 @@ pub(crate) fn go_on(
     margin: Margin,
     event: Event,
     among: &[Event],
-    regions: &[Region],
+    regions: &Regions,
     wanted: &Wanted,
 ) -> Result<Option<Walk>, NoMemory>
     ensures { IfOk result
@@ -66,7 +66,7 @@ pub(crate) fn go_on(
 
 /// Whether a walk stops at a place: another event may come there, or the same one may not, or nobody executes who has
 /// stepped last.
-fn stops(board: &Board, here: Margin, event: Event, among: &[Event], regions: &[Region]) -> bool
+fn stops(board: &Board, here: Margin, event: Event, among: &[Event], regions: &Regions) -> bool
     ensures { result ≡ false → IsAlone among.now regions.now (spot_of board.now here) event }
 {
     board.is_off()
@@ -76,7 +76,7 @@ fn stops(board: &Board, here: Margin, event: Event, among: &[Event], regions: &[
 }
 
 /// Whether no other event may come at a place than this one.
-fn is_alone(board: &Board, here: Margin, event: Event, among: &[Event], regions: &[Region]) -> bool
+fn is_alone(board: &Board, here: Margin, event: Event, among: &[Event], regions: &Regions) -> bool
     ensures { result ≡ true → IsAlone among.now regions.now (spot_of board.now here) event }
 {
     for other in among {
@@ -87,9 +87,9 @@ fn is_alone(board: &Board, here: Margin, event: Event, among: &[Event], regions:
     true
 }
 
-/// Whether an event may come at a place: something is left for it, and it preempts nobody, or somebody inside.
-pub(crate) fn may_go(board: &Board, here: Margin, event: Event, regions: &[Region]) -> bool
+/// Whether an event may come at a place: something is left for it, and it keeps to the regions.
+pub(crate) fn may_go(board: &Board, here: Margin, event: Event, regions: &Regions) -> bool
     ensures { result ≡ may_go regions.now (spot_of board.now here) event }
 {
-    here.left.affords(here.last, event) && switches_inside(regions, board, here.last, event)
+    here.left.affords(here.last, event) && keeps_to(regions, board, here.last, event)
 }

@@ -1,17 +1,20 @@
 -- A search of what was read.
-use Rattle.std.proofs.Common.{◌≡◌, ℕ, ◌<◌, ◌≤◌, true, false, List, [], length, refl, sym, ap, inl, inr, subst, arith}
-use Rattle.std.specs.Prelude.{◌==◌, not, Option, Some, None, is_some, IfSome, Result, Ok, Err, MatchResult, option_map}
+use Rattle.std.proofs.Common.{◌≡◌, ℕ, ◌<◌, ◌≤◌, true, false, List, [], length, refl, sym, ap, inl, inr, subst, arith, ◌∙◌}
+use Rattle.std.specs.Prelude.{◌==◌, ◌&&◌, ◌||◌, Bool, not, Option, Some, None, is_some, IfSome, Result, Ok, Err, MatchResult, option_map}
 use Rattle.brd_board.specs.declared.event.Event.{Event}
 use Rattle.brd_explore.specs.declared.bounds.Bounds.{Bounds}
 use Rattle.brd_image.specs.declared.building.Loaded.{Loaded}
 use Rattle.brd_inputs.specs.Start.{IsLoaded}
 use Rattle.brd_inputs.specs.declared.fault.CommandFault.{CommandFault}
 use Rattle.brd_only.specs.declared.region.Region.{Region}
-use Rattle.brd_search.specs.Plans.{IsPlan, regions_of, text_of}
+use Rattle.brd_only.specs.declared.region.Regions.{Regions}
+use Rattle.brd_only.specs.Only.{are_none}
+use Rattle.brd_search.specs.Plans.{IsPlan, has_regions, regions_of, text_of}
 use Rattle.brd_search.specs.Searches.{Answers, IsFewest, IsShortest, StopsSo}
 use Rattle.brd_search.specs.declared.searching.NoAnswer.{NoAnswer}
 use Rattle.brd_search.specs.declared.searching.NoAnswer.TheVariants as no_answer
 use Rattle.std.proofs.lemmas.Bool.Decides.{nat_tests}
+use Rattle.std.proofs.lemmas.Bool.{cases_Bool, false≢true}
 use Rattle.brd_search.specs.Shown.{shown}
 use Rattle.brd_search.specs.declared.options.SearchOptions.{SearchOptions}
 use Rattle.brd_search.specs.declared.plan.Plan.{Plan}
@@ -88,11 +91,27 @@ isnt-known unknown.Waits = tt
 
 -- where there are regions, the option says them
 said : (symbols : List Symbol) (text : Option (List ℕ)) (regions : List Region) → regions_of symbols text ≡ Ok regions →
-    0 < length regions → is_some text ≡ true
+    (length regions == 0) ≡ false → is_some text ≡ true
 said symbols None regions is some =
     let none : [] ≡ regions = cc in
-    absurd (omega (arith, some, ap length none))
+    absurd (false≢true (sym some ∙ ap (λ (rs : List Region). length rs == 0) (sym none)))
 said symbols (Some text) regions is some = refl
+
+second : (a b : Bool) → b ≡ true → (a || b) ≡ true
+second true b is = refl
+second false b is = is
+
+-- where there are some of either kind, one of the options does
+some-said : (options : SearchOptions) (symbols : List Symbol) (regions : Regions) →
+    regions_of symbols (text_of options.only) ≡ Ok regions.switches → regions_of symbols (text_of options.raises_at) ≡ Ok regions.raises →
+    are_none regions ≡ false → has_regions options ≡ true
+some-said options symbols regions switches raises some = elim (cases_Bool (length regions.switches == 0)) [
+  | inl none ↦
+      second (is_some (text_of options.only)) (is_some (text_of options.raises_at))
+      (said symbols (text_of options.raises_at) regions.raises raises (sym (ap (λ t. t && length regions.raises == 0) none) ∙ some))
+  | inr there ↦
+      ap (λ t. t || is_some (text_of options.raises_at)) (said symbols (text_of options.only) regions.switches switches there)
+]
 
 pub out-of-time : (options : SearchOptions) (loaded : Loaded) (plan : Plan) (why : NoAnswer) →
     IsPlan options loaded.board (processors_of loaded.board) loaded.image.symbols plan →
@@ -105,7 +124,7 @@ out-of-time options loaded plan (no_answer.StoppedAfter preemptions) planned sto
 out-of-time options loaded plan (no_answer.Unknown why) planned stops =
     inr (inr (inr (inl (subst (λ (n : ℕ). 0 < n) planned.lazy stops), isnt-known why)))
 out-of-time options loaded plan no_answer.UnknownInside planned stops =
-    inr (inr (inr (inr (said loaded.image.symbols (text_of options.only) plan.only planned.only stops), tt)))
+    inr (inr (inr (inr (some-said options loaded.image.symbols plan.regions planned.switches planned.raises_at stops), tt)))
 
 -- A search without bounds.
 

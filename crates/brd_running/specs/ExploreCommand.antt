@@ -1,6 +1,6 @@
 -- The command `explore`: what it writes for what it reads, which journal it saves, and how it ends.
 use Rattle.std.specs.Prelude.{◌≡◌, ◌⊎◌, ℕ, ◌<◌, true, false, List, ◌++◌, codes, Option, None, Some, IfSome, Result}
-use Rattle.std.specs.Prelude.{Ok, Err, is_some}
+use Rattle.std.specs.Prelude.{Ok, Err}
 use Rattle.std.specs.declared.io.Error.{Error}
 use Rattle.brd_board.specs.declared.event.Event.{Event}
 use Rattle.brd_board.specs.Board.{BoardState, after}
@@ -20,8 +20,7 @@ use Rattle.brd_reach.specs.declared.searching.Reached.{Reached}
 use Rattle.brd_reach.specs.declared.searching.Reached.TheVariants as reached
 use Rattle.brd_reach.specs.declared.unknown.Unknown.{Unknown}
 use Rattle.brd_reach.specs.declared.unknown.Unknown.TheVariants as unknown
-use Rattle.brd_search.specs.Plans.{IsPlan, KeepsFromPlanning}
-use Rattle.brd_search.specs.Plans as plans
+use Rattle.brd_search.specs.Plans.{IsPlan, KeepsFromPlanning, has_regions}
 use Rattle.brd_search.specs.Searches.{Answers, IsFewest, IsShortest, NoneWithin}
 use Rattle.brd_search.specs.Shown.{shown}
 use Rattle.brd_search.specs.declared.fault.SearchFault.{SearchFault}
@@ -149,7 +148,7 @@ KeepsFromSearching options loaded (Search fault) =
     KeepsFromPlanning options loaded.board (processors_of loaded.board) loaded.image.symbols fault
     ⊎ (((0 < options.places) × IsUnknown fault)
     ⊎ (((0 < options.time) × IsOutOfTime options loaded fault)
-    ⊎ (((0 < options.lazy) ⊎ (is_some (plans.text_of options.only) ≡ true)) × IsUnknown fault)))
+    ⊎ (((0 < options.lazy) ⊎ (has_regions options ≡ true)) × IsUnknown fault)))
 KeepsFromSearching options loaded (Schedule TooLong) = 0 < options.places
 KeepsFromSearching options loaded _ = ⊥
 

@@ -32,8 +32,11 @@ use Rattle.brd_search.specs.declared.fault.SearchFault.TheVariants.{Twice, NoHan
 use Rattle.brd_search.specs.declared.fault.SearchFault.TheVariants.{Never, Time, Word, NoSymbol, Console, Shard, Threads}
 use Rattle.brd_search.specs.declared.fault.SearchFault.TheVariants.{Raises as BadRaises}
 use Rattle.brd_search.specs.declared.fault.SearchFault.TheVariants.{NoFinals, Values, ValuesTwice, NoWord}
-use Rattle.brd_search.specs.declared.fault.SearchFault.TheVariants.{Only, OnlySymbol, OnlyEmpty, OnlyTwice, OnlyAlone}
+use Rattle.brd_search.specs.declared.fault.SearchFault.TheVariants.{Only, RaisesAt, NoRaises, OnlyAlone}
+use Rattle.brd_search.specs.declared.fault.RegionFault.{RegionFault}
+use Rattle.brd_search.specs.declared.fault.RegionFault.TheVariants as region_fault
 use Rattle.brd_only.specs.declared.region.Region.{Region}
+use Rattle.brd_only.specs.declared.region.Regions.{Regions}
 use Rattle.brd_search.specs.declared.raises.Raises.{Raises}
 use Rattle.brd_search.specs.declared.options.Looks.{Looks}
 use Rattle.brd_search.specs.declared.options.SearchOptions.{SearchOptions}
@@ -242,36 +245,36 @@ abbrev pub reaches_of : List Symbol → Option (List ℕ) → Result (List Failu
 reaches_of symbols None = Ok []
 reaches_of symbols (Some text) = each_of (reach_of symbols) (pieces_of text)
 
--- ---- the regions in which a processor may be preempted
+-- ---- the regions to which schedules keep
 
 -- the address of a place of a region: a number where it begins with a digit, else the value of the symbol of that name
-abbrev pub label_at : List Symbol → List ℕ → Result ℕ SearchFault
+abbrev pub label_at : List Symbol → List ℕ → Result ℕ RegionFault
 label_at symbols place =
-    if begins_with_digit place then or_fault Only (number_of place) else or_fault OnlySymbol (symbol_value symbols place)
+    if begins_with_digit place then or_fault region_fault.Form (number_of place)
+    else or_fault region_fault.NoSymbol (symbol_value symbols place)
 
 -- the region from one address up to a higher one
-abbrev pub between : ℕ → ℕ → Result Region SearchFault
-between from upto = if nat_lt from upto then Ok (record { from = from; upto = upto }) else Err OnlyEmpty
+abbrev pub between : ℕ → ℕ → Result Region RegionFault
+between from upto = if nat_lt from upto then Ok (record { from = from; upto = upto }) else Err region_fault.Empty
 
 -- the region from a place up to the one that stands behind the second point of FROM..UPTO
-abbrev pub region_from : List Symbol → List ℕ → List ℕ → Result Region SearchFault
-region_from symbols from [] = Err Only
+abbrev pub region_from : List Symbol → List ℕ → List ℕ → Result Region RegionFault
+region_from symbols from [] = Err region_fault.Form
 region_from symbols from (b ∷ bs) =
     if b == 46 then label_at symbols from >>= (λ first. label_at symbols bs >>= (λ second. between first second))
-    else Err Only
+    else Err region_fault.Form
 
-abbrev pub region_by : List Symbol → Option (List ℕ × List ℕ) → Result Region SearchFault
-region_by symbols None = Err Only
+abbrev pub region_by : List Symbol → Option (List ℕ × List ℕ) → Result Region RegionFault
+region_by symbols None = Err region_fault.Form
 region_by symbols (Some parts) = region_from symbols parts.0 parts.1
 
 -- the region that FROM..UPTO says
-unfoldable pub region_of : List Symbol → List ℕ → Result Region SearchFault
+unfoldable pub region_of : List Symbol → List ℕ → Result Region RegionFault
 region_of symbols text = region_by symbols (parts_of 46 text)
 
--- the regions of `--only`, each by a piece of its text; none where it isn't given
-abbrev pub regions_of : List Symbol → Option (List ℕ) → Result (List Region) SearchFault
-regions_of symbols None = Ok []
-regions_of symbols (Some text) = each_of (region_of symbols) (pieces_of text)
+-- the regions of a text, each by a piece of it
+abbrev pub regions_in : List Symbol → List ℕ → Result (List Region) RegionFault
+regions_in symbols text = each_of (region_of symbols) (pieces_of text)
 
 -- a region is the same as another one
 abbrev pub is_same : Region → Region → Bool
@@ -281,6 +284,15 @@ is_same one other = other.from == one.from && other.upto == one.upto
 abbrev pub are_double : List Region → Bool
 are_double [] = false
 are_double (region ∷ regions) = list_any (λ other. is_same region other) regions || are_double regions
+
+-- regions, unless one is there twice
+abbrev pub each_once : List Region → Result (List Region) RegionFault
+each_once regions = if are_double regions then Err region_fault.Twice else Ok regions
+
+-- the regions that `--only` or `--raises-at` says, each once; none where it isn't given
+abbrev pub regions_of : List Symbol → Option (List ℕ) → Result (List Region) RegionFault
+regions_of symbols None = Ok []
+regions_of symbols (Some text) = regions_in symbols text >>= each_once
 
 -- ---- conditions that are never to hold
 
@@ -514,7 +526,11 @@ lazy_fits options = options.lazy == 0 || is_simple options
 abbrev pub memory_of : SearchOptions → ℕ
 memory_of options = if options.lazy == 0 && is_simple options then options.memory else 0
 
--- options ask for nothing that a search doesn't know that preempts in regions alone
+-- options say regions to which schedules keep
+abbrev pub has_regions : SearchOptions → Bool
+has_regions options = is_some (text_of options.only) || is_some (text_of options.raises_at)
+
+-- options ask for nothing that a search doesn't know that keeps to regions
 abbrev pub is_bare : SearchOptions → Bool
 is_bare options =
     not (is_some (text_of options.shard)) && options.sizes.fair == 0 && options.remember == 0 && options.threads == 0
@@ -522,7 +538,11 @@ is_bare options =
 
 -- they don't ask for such a search, or for nothing else
 abbrev pub only_fits : SearchOptions → Bool
-only_fits options = not (is_some (text_of options.only)) || is_bare options
+only_fits options = not (has_regions options) || is_bare options
+
+-- it isn't said where lines may be raised, or some may be
+abbrev pub raises_fit : SearchOptions → ℕ → Bool
+raises_fit options most = not (is_some (text_of options.raises_at)) || not (most == 0)
 
 -- A plan is what options ask for, on a board of so many processors whose image has these symbols. Each line that may be
 -- raised has a handler there, and is named once.
@@ -552,8 +572,9 @@ pub record IsPlan (options : SearchOptions) (b : BoardState) (cpus : ℕ) (symbo
     pub plain : places_fit options ≡ true
     pub timely : time_fits options ≡ true
     pub simple : lazy_fits options ≡ true
-    pub only : regions_of symbols (text_of options.only) ≡ Ok plan.only
-    pub each : are_double plan.only ≡ false
+    pub switches : regions_of symbols (text_of options.only) ≡ Ok plan.regions.switches
+    pub raises_at : regions_of symbols (text_of options.raises_at) ≡ Ok plan.regions.raises
+    pub raised : raises_fit options said.most ≡ true
     pub bare : only_fits options ≡ true
 
 -- The lines of `--lines` aren't those of the raises, for this reason.
@@ -569,11 +590,11 @@ pub record IsUnfit (options : SearchOptions) (cpus : ℕ) (is : List Event → B
   pub lines : HasLines options cpus said among
   pub so : is among ≡ true
 
--- a region of a text of `--only` is there twice
-pub record HasDouble (symbols : List Symbol) (text : Option (List ℕ)) : Type 0 where
-  pub regions : List Region
-  pub are : regions_of symbols text ≡ Ok regions
-  pub so : are_double regions ≡ true
+-- No line may be raised, and it is said where lines may be.
+pub record RaisesNone (options : SearchOptions) : Type 0 where
+  pub said : Raises
+  pub raises : raises_said (text_of options.raises) ≡ Some said
+  pub so : raises_fit options said.most ≡ false
 
 -- what is wrong with options, or that memory ran out
 abbrev pub KeepsFromPlanning : SearchOptions → BoardState → ℕ → List Symbol → SearchFault → Type 0
@@ -594,10 +615,9 @@ KeepsFromPlanning options b cpus symbols NoFinals = KeepsFromValues options b sy
 KeepsFromPlanning options b cpus symbols Values = KeepsFromValues options b symbols Values
 KeepsFromPlanning options b cpus symbols ValuesTwice = KeepsFromValues options b symbols ValuesTwice
 KeepsFromPlanning options b cpus symbols NoWord = KeepsFromValues options b symbols NoWord
-KeepsFromPlanning options b cpus symbols Only = regions_of symbols (text_of options.only) ≡ Err Only
-KeepsFromPlanning options b cpus symbols OnlySymbol = regions_of symbols (text_of options.only) ≡ Err OnlySymbol
-KeepsFromPlanning options b cpus symbols OnlyEmpty = regions_of symbols (text_of options.only) ≡ Err OnlyEmpty
-KeepsFromPlanning options b cpus symbols OnlyTwice = HasDouble symbols (text_of options.only)
+KeepsFromPlanning options b cpus symbols (Only why) = regions_of symbols (text_of options.only) ≡ Err why
+KeepsFromPlanning options b cpus symbols (RaisesAt why) = regions_of symbols (text_of options.raises_at) ≡ Err why
+KeepsFromPlanning options b cpus symbols NoRaises = RaisesNone options
 KeepsFromPlanning options b cpus symbols OnlyAlone = only_fits options ≡ false
 KeepsFromPlanning options b cpus symbols fault = KeepsFromWanting options.looks options.sizes.fair symbols fault
 
@@ -629,34 +649,22 @@ abbrev pub IsOfOnly : Bool → SearchFault → Type 0
 IsOfOnly fits OnlyAlone = fits ≡ false
 IsOfOnly fits _ = ⊥
 
--- the regions that a text says
-pub record AreRegions (symbols : List Symbol) (text : Option (List ℕ)) (regions : List Region) : Type 0 where
-  pub are : regions_of symbols text ≡ Ok regions
-  pub each : are_double regions ≡ false
+-- no raise is allowed, though it is said where lines may be raised
+abbrev pub IsOfNoRaises : Bool → SearchFault → Type 0
+IsOfNoRaises fits NoRaises = fits ≡ false
+IsOfNoRaises fits _ = ⊥
 
--- a fault that a region of `--only` may have
-abbrev pub IsOfRegion : SearchFault → Type 0
-IsOfRegion Only = Unit {0}
-IsOfRegion OnlySymbol = Unit {0}
-IsOfRegion OnlyEmpty = Unit {0}
-IsOfRegion _ = ⊥
+-- the regions that both options say
+pub record AreSaid (options : SearchOptions) (symbols : List Symbol) (regions : Regions) : Type 0 where
+  pub switches : regions_of symbols (text_of options.only) ≡ Ok regions.switches
+  pub raises : regions_of symbols (text_of options.raises_at) ≡ Ok regions.raises
 
--- the fault of a text of `--only`
-abbrev pub IsOfText : List Symbol → Option (List ℕ) → SearchFault → Type 0
-IsOfText symbols text NoMemory = Unit {0}
-IsOfText symbols text Only = regions_of symbols text ≡ Err Only
-IsOfText symbols text OnlySymbol = regions_of symbols text ≡ Err OnlySymbol
-IsOfText symbols text OnlyEmpty = regions_of symbols text ≡ Err OnlyEmpty
-IsOfText symbols text _ = ⊥
-
--- the fault of `--only`
-abbrev pub IsOfRegions : List Symbol → Option (List ℕ) → SearchFault → Type 0
-IsOfRegions symbols text NoMemory = Unit {0}
-IsOfRegions symbols text Only = regions_of symbols text ≡ Err Only
-IsOfRegions symbols text OnlySymbol = regions_of symbols text ≡ Err OnlySymbol
-IsOfRegions symbols text OnlyEmpty = regions_of symbols text ≡ Err OnlyEmpty
-IsOfRegions symbols text OnlyTwice = HasDouble symbols text
-IsOfRegions symbols text _ = ⊥
+-- the fault of what they say
+abbrev pub AreNotSaid : SearchOptions → List Symbol → SearchFault → Type 0
+AreNotSaid options symbols NoMemory = Unit {0}
+AreNotSaid options symbols (Only why) = regions_of symbols (text_of options.only) ≡ Err why
+AreNotSaid options symbols (RaisesAt why) = regions_of symbols (text_of options.raises_at) ≡ Err why
+AreNotSaid options symbols _ = ⊥
 
 -- the bounds that options give, whose numbers are within limits
 pub record IsSized (options : SearchOptions) (said : Raises) (bounds : Bounds) : Type 0 where
@@ -814,7 +822,12 @@ pub record AddsConsole (text : Option (List ℕ)) (old new : List Failure) : Typ
   pub all : new ≡ old ++ more
 
 -- what was read stands behind what was there before
-pub record Adds {X : Type 0} (given : Result (List X) SearchFault) (old new : List X) : Type 0 where
+pub record Adds {X F : Type 0} (given : Result (List X) F) (old new : List X) : Type 0 where
   pub more : List X
   pub is : given ≡ Ok more
   pub all : new ≡ old ++ more
+
+-- so it does, or nothing can be read, for a reason
+abbrev pub AddsOr : {X F : Type 0} → Result (List X) F → List X → List X → Result Unit F → Type 0
+AddsOr given old new (Ok done) = Adds given old new
+AddsOr given old new (Err why) = given ≡ Err why

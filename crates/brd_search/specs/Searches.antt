@@ -1,13 +1,12 @@
 -- What a search answers.
-use Rattle.std.specs.Prelude.{◌≡◌, ◌⊎◌, ℕ, ◌-◌, ◌≤◌, ◌<◌, min, Bool, true, List, [], ◌∷◌, length, Option, Some, None}
+use Rattle.std.specs.Prelude.{◌≡◌, ◌⊎◌, ℕ, ◌-◌, ◌≤◌, ◌<◌, min, Bool, true, false, List, length, Option, Some, None}
 use Rattle.brd_board.specs.declared.event.Event.{Event}
 use Rattle.brd_board.specs.Board.{BoardState}
 use Rattle.brd_explore.specs.declared.bounds.Bounds.{Bounds}
-use Rattle.brd_explore.specs.Schedules.{Place, start}
+use Rattle.brd_explore.specs.Schedules.{start}
 use Rattle.brd_explore.specs.Searching.{IsFound}
 use Rattle.brd_explore.specs.Shards.{NoneFailsInShard}
-use Rattle.brd_only.specs.declared.region.Region.{Region}
-use Rattle.brd_only.specs.Only.{KeepsInside, NoneFailsInside}
+use Rattle.brd_only.specs.Only.{KeepsInside, NoneFailsInside, are_none}
 use Rattle.brd_search.specs.declared.plan.Plan.{Plan}
 use Rattle.brd_search.specs.declared.searching.NoAnswer.{NoAnswer}
 use Rattle.brd_search.specs.declared.searching.NoAnswer.TheVariants as no_answer
@@ -25,20 +24,15 @@ pub record AreNotMore (few many : Bounds) : Type 0 where
 abbrev pub NoneWhole : Plan → BoardState → Bounds → Type 0
 NoneWhole plan b bounds = NoneFailsInShard plan.wanted plan.shard plan.among (start b bounds)
 
--- none within bounds fails; or if there are regions, none that keeps to them
-abbrev pub NoneIn : List Region → Plan → BoardState → Bounds → Type 0
-NoneIn [] plan b bounds = NoneWhole plan b bounds
-NoneIn (region ∷ regions) plan b bounds =
-    NoneFailsInside plan.wanted plan.among (region ∷ regions) (start b bounds)
+-- Where there are no regions, no schedule of the plan's shard within bounds fails; else none within bounds does that
+-- keeps to the plan's regions.
+abbrev pub NoneIn : (anywhere : Bool) → Plan → BoardState → Bounds → Type 0
+NoneIn true plan b bounds = NoneWhole plan b bounds
+NoneIn false plan b bounds = NoneFailsInside plan.wanted plan.among plan.regions (start b bounds)
 
 -- no schedule of the plan's shard within bounds fails that keeps to the plan's regions, if it has any
 abbrev pub NoneWithin : Plan → BoardState → Bounds → Type 0
-NoneWithin plan b bounds = NoneIn plan.only plan b bounds
-
--- a schedule keeps to the regions, if there are any
-abbrev pub KeepsIn : List Region → Place → List Event → Type 0
-KeepsIn [] p events = Unit {0}
-KeepsIn (region ∷ regions) p events = KeepsInside (region ∷ regions) p events
+NoneWithin plan b bounds = NoneIn (are_none plan.regions) plan b bounds
 
 -- what a search within bounds has answered that knows no regions
 abbrev pub AnswersWhole : Plan → BoardState → Bounds → Option (List Event) → Type 0
@@ -48,7 +42,7 @@ AnswersWhole plan b bounds None = NoneWhole plan b bounds
 -- a schedule that was found is within bounds, keeps to the plan's regions, and fails
 pub record IsFoundBy (plan : Plan) (b : BoardState) (bounds : Bounds) (events : List Event) : Type 0 where
   pub found : IsFound plan.wanted plan.among (start b bounds) events
-  pub keeps : KeepsIn plan.only (start b bounds) events
+  pub keeps : KeepsInside plan.regions (start b bounds) events
 
 -- what a search within bounds has answered
 abbrev pub AnswersWithin : Plan → BoardState → Bounds → Option (List Event) → Type 0
@@ -58,7 +52,7 @@ AnswersWithin plan b bounds None = NoneWithin plan b bounds
 -- a schedule that was found is within bounds, which are not more than the plan's, keeps to the plan's regions, and fails
 pub record FailsWithin (plan : Plan) (b : BoardState) (bounds : Bounds) (events : List Event) : Type 0 where
   pub found : IsFound plan.wanted plan.among (start b bounds) events
-  pub keeps : KeepsIn plan.only (start b bounds) events
+  pub keeps : KeepsInside plan.regions (start b bounds) events
   pub few : AreNotMore bounds plan.bounds
 
 -- What a search answers is so: the schedule is within the bounds that are named, keeps to the plan's regions, and
@@ -84,7 +78,7 @@ abbrev pub StopsSo : Plan → BoardState → Bool → NoAnswer → Type 0
 StopsSo plan b may no_answer.NoMemory = Unit {0}
 StopsSo plan b may no_answer.Stopped = may ≡ true
 StopsSo plan b may (no_answer.Unknown why) = 0 < plan.lazy
-StopsSo plan b may no_answer.UnknownInside = 0 < length plan.only
+StopsSo plan b may no_answer.UnknownInside = are_none plan.regions ≡ false
 StopsSo plan b may (no_answer.StoppedAfter preemptions) =
     (may ≡ true) × (preemptions < plan.bounds.preemptions)
     × NoneWithin plan b (record plan.bounds { preemptions = preemptions })

@@ -5,6 +5,24 @@ ghost use Rattle.std.specs.Prelude.{◌≡◌};
 use brd_base::NoMemory;
 use thiserror::Error;
 
+/// What is wrong with the regions that an option says.
+#[derive(Clone, Copy, Debug, PartialEq, Eq, Error)]
+pub enum RegionFault {
+    /// A region isn't one.
+    #[error("has regions of instructions with commas between them, as push..pop: from a place up to, not including, \
+         another one, each a symbol of the object file, or 0x and a hexadecimal address")]
+    Form,
+    /// A place of a region is no symbol of the image.
+    #[error("names a symbol that the object file doesn't have")]
+    NoSymbol,
+    /// A region has no instruction.
+    #[error("has a region whose end isn't above its start")]
+    Empty,
+    /// A region is there twice.
+    #[error("has a region twice")]
+    Twice,
+}
+
 /// What is wrong with the options of a search.
 #[derive(Clone, Copy, Debug, PartialEq, Eq, Error)]
 pub enum SearchFault {
@@ -72,24 +90,20 @@ pub enum SearchFault {
     /// A search by lazy schedules is to do what it doesn't know.
     #[error("--lazy goes with none of --fair, --places, --remember and --shard")]
     Lazy,
-    /// A region isn't one.
-    #[error("--only has regions of instructions with commas between them, as push..pop: from a place up to, not \
-         including, another one, each a symbol of the object file, or 0x and a hexadecimal address")]
-    Only,
-    /// A place of a region is no symbol of the image.
-    #[error("--only names a symbol that the object file doesn't have")]
-    OnlySymbol,
-    /// A region has no instruction.
-    #[error("--only has a region whose end isn't above its start")]
-    OnlyEmpty,
-    /// A region is there twice.
-    #[error("--only has a region twice")]
-    OnlyTwice,
-    /// A search that preempts in regions alone is to do what it doesn't know.
-    #[error("--only goes with none of --fair, --lazy, --places, --remember, --shard and --threads")]
+    /// Something is wrong with the regions in which a processor may be preempted.
+    #[error("--only {0}")]
+    Only(RegionFault),
+    /// Something is wrong with the regions in which lines may be raised.
+    #[error("--raises-at {0}")]
+    RaisesAt(RegionFault),
+    /// It is said where lines may be raised, and no raise is allowed.
+    #[error("--raises-at says where lines may be raised, and --raises how often")]
+    NoRaises,
+    /// A search that keeps to regions is to do what it doesn't know.
+    #[error("--only and --raises-at go with none of --fair, --lazy, --places, --remember, --shard and --threads")]
     OnlyAlone,
     /// Such a search has come to no answer: there are more places.
-    #[error("not known: --only leaves more places than --memory holds")]
+    #[error("not known: there are more places than --memory holds")]
     MoreOnly,
     /// The time of a search is over, and of no schedule it is known whether it fails.
     #[error("not known: --time is over")]

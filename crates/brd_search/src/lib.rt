@@ -20,7 +20,7 @@ mod told;
 mod values;
 mod wanting;
 
-pub use fault::SearchFault;
+pub use fault::{RegionFault, SearchFault};
 pub use options::{Looks, SearchOptions, Sizes};
 pub use plan::{Plan, plan_of};
 pub use raises::Raises;

@@ -70,4 +70,7 @@ pub struct SearchOptions<'a> {
     /// In which regions of instructions a processor may be preempted, as `push..pop,lock..unlock`: from a place up to,
     /// not including, another one. Nothing: anywhere.
     pub only: Option<&'a str>,
+    /// In which regions some processor has to be about to execute while a line is raised, said likewise. Nothing: lines
+    /// may be raised anywhere.
+    pub raises_at: Option<&'a str>,
 }

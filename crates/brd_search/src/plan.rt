@@ -5,7 +5,8 @@ ghost use Rattle.std.specs.Prelude.{◌≡◌, true, false};
 ghost use Rattle.brd_search.specs.Plans.{IsPlan, KeepsFromPlanning, IsSized, IsOfSizes, IsShard, IsNoShard, text_of};
 ghost use Rattle.brd_search.specs.Plans.{DontFit, IsOfEnds, IsOfTime, is_plain, places_fit, time_fits};
 ghost use Rattle.brd_search.specs.Plans.{IsOfLazy, is_simple, lazy_fits, memory_of};
-ghost use Rattle.brd_search.specs.Plans.{IsOfOnly, is_bare, only_fits};
+ghost use Rattle.brd_search.specs.Plans.{IsOfOnly, has_regions, is_bare, only_fits};
+ghost use Rattle.brd_search.specs.Plans.{AreNotSaid, AreSaid, IsOfNoRaises, raises_fit};
 
 use crate::coming::{check_lines, may_come};
 use crate::fault::SearchFault;
@@ -18,7 +19,7 @@ use brd_base::List;
 use brd_board::{Board, Event};
 use brd_explore::{Bounds, Shard, Wanted};
 use brd_mem::Symbol;
-use brd_only::Region;
+use brd_only::Regions;
 use brd_text::{parted, plain_decimal};
 use std::alloc::Global;
 
@@ -65,8 +66,8 @@ pub struct Plan {
     pub memory: u32,
     /// The addresses of the words whose values such a list has beside the consoles.
     pub values: List<u32>,
-    /// In which regions of instructions a processor may be preempted; none: anywhere.
-    pub only: List<Region>,
+    /// The regions of instructions to which schedules keep.
+    pub regions: Regions,
 }
 
 /// Written out, so that a function that lets one go is proved with a call.
@@ -87,7 +88,7 @@ impl Drop for Plan {
             lazy: _,
             memory: _,
             values: _,
-            only: _,
+            regions: _,
         } = self;
     }
 }
@@ -112,13 +113,14 @@ pub fn plan_of(
     check_lazy(options)?;
     check_only(options)?;
     let raises = raises_of(options.raises)?;
+    check_raises_at(options, raises.most)?;
     let bounds = bounds_of(options, raises)?;
     let shard = shard_of(options.shard)?;
     let among = may_come(alloc, options, raises.most, cpus)?;
     check_lines(board, among.as_slice())?;
     let wanted = wanted_of(alloc, &options.looks, options.sizes.fair, cpus, symbols)?;
     let values = values_of(alloc, options, board, symbols)?;
-    let only = regions_of(alloc, options.only, symbols)?;
+    let regions = regions_said(alloc, options, symbols)?;
     Ok(Plan {
         bounds,
         among,
@@ -134,7 +136,7 @@ pub fn plan_of(
         lazy: options.lazy,
         memory: memory_of(options),
         values,
-        only,
+        regions,
     })
 }
 
@@ -189,14 +191,51 @@ fn lazy_fits(options: &SearchOptions<'_>) -> bool
     options.lazy == 0 || is_simple(options)
 }
 
-/// A search that preempts in regions alone goes through the whole within bounds, by one thread, and to no fair end.
+/// The regions that both options say.
+fn regions_said(
+    alloc: Global,
+    options: &SearchOptions<'_>,
+    symbols: &[Symbol],
+) -> Result<Regions, SearchFault>
+    ensures { MatchResult result (AreSaid options.now symbols.now) (AreNotSaid options.now symbols.now) }
+{
+    let switches = match regions_of(alloc, options.only, symbols)? {
+        Ok(switches) => switches,
+        Err(fault) => return Err(SearchFault::Only(fault)),
+    };
+    let raises = match regions_of(alloc, options.raises_at, symbols)? {
+        Ok(raises) => raises,
+        Err(fault) => return Err(SearchFault::RaisesAt(fault)),
+    };
+    Ok(Regions { switches, raises })
+}
+
+/// It is said where lines may be raised only if some may be.
+fn check_raises_at(options: &SearchOptions<'_>, most: u32) -> Result<(), SearchFault>
+    ensures { MatchResult result (λ _. raises_fit options.now most ≡ true)
+        (IsOfNoRaises (raises_fit options.now most)) }
+{
+    if options.raises_at.is_none() || most != 0 {
+        return Ok(());
+    }
+    Err(SearchFault::NoRaises)
+}
+
+/// A search that keeps to regions goes through the whole within bounds, by one thread, and to no fair end.
 fn check_only(options: &SearchOptions<'_>) -> Result<(), SearchFault>
     ensures { MatchResult result (λ _. only_fits options.now ≡ true) (IsOfOnly (only_fits options.now)) }
 {
-    if options.only.is_none() || is_bare(options) {
+    if !has_regions(options) || is_bare(options) {
         return Ok(());
     }
     Err(SearchFault::OnlyAlone)
+}
+
+/// Whether options say regions.
+fn has_regions(options: &SearchOptions<'_>) -> bool
+    ensures { result ≡ has_regions options.now }
+{
+    options.only.is_some() || options.raises_at.is_some()
 }
 
 /// Whether options ask for nothing that such a search doesn't know.

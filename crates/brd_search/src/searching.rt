@@ -1,7 +1,7 @@
 //! The search itself: with few preemptions first, and then shorter.
 
 ghost use Rattle.std.specs.Prelude.{option_map, ◌≡◌, ◌≤◌, ◌<◌, Bool, true, false, IfErr, IfOk, IfSome, IfNone};
-ghost use Rattle.std.specs.Prelude.{length};
+ghost use Rattle.brd_only.specs.Only.{are_none};
 ghost use Rattle.brd_search.specs.Searches.{Answers, AnswersWithin, IsFewer, IsFewest, IsLeast, IsShortest, NoneBelow};
 ghost use Rattle.brd_search.specs.Searches.{AnswersWhole, StopsSo};
 ghost use Rattle.brd_search.specs.declared.plan.Plan.{Plan as PlanOf};
@@ -161,7 +161,7 @@ fn within<T: Threads + Sync, W: Watch + Send>(
     ensures bounds { IfOk result (λ found. found.bounds ≡ bounds) }
     ensures stops { IfErr result (StopsSo plan.now board.now W.may_stop) }
 {
-    if plan.only.len() > 0 {
+    if !plan.regions.are_none() {
         return within_regions(alloc, board, plan, bounds, watch);
     }
     within_whole(rt, alloc, board, plan, lazily, bounds, watch)
@@ -175,7 +175,7 @@ fn within_regions<W: Watch>(
     bounds: Bounds,
     watch: &mut W,
 ) -> Result<Searched, NoAnswer>
-    requires { 0 < length plan.now.only }
+    requires { are_none plan.now.regions ≡ false }
     ensures is { IfOk result
         (λ found. AnswersWithin plan.now board.now bounds (option_map (λ events. events.items) found.schedule)) }
     ensures bounds { IfOk result (λ found. found.bounds ≡ bounds) }
@@ -186,7 +186,7 @@ fn within_regions<W: Watch>(
         board,
         bounds,
         plan.among.as_slice(),
-        plan.only.as_slice(),
+        &plan.regions,
         &plan.wanted,
         plan.memory as usize * PLACES,
         watch,

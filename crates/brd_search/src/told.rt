@@ -86,12 +86,18 @@ pub fn put_none(
     put_ends(alloc, plan, counts, out)
 }
 
-/// Puts at the end a line of the regions in which a processor may be preempted, if there are any.
-fn put_only(symbols: &[Symbol], regions: &[Region], out: &mut Vec<u8>) -> Result<(), NoMemory> {
+/// Puts at the end a line of the regions in which such events may come, if there are any.
+fn put_regions(
+    symbols: &[Symbol],
+    events: &str,
+    regions: &[Region],
+    out: &mut Vec<u8>,
+) -> Result<(), NoMemory> {
     if regions.is_empty() {
         return Ok(());
     }
-    put(out, "switches only in ")?;
+    put(out, events)?;
+    put(out, " only in ")?;
     let mut others = false;
     for region in regions {
         if others {
@@ -117,7 +123,8 @@ fn put_none_lazily(
     put(out, "the schedules fails: at most ")?;
     put_bounds(alloc, out, plan.bounds)?;
     put(out, "\n")?;
-    put_only(symbols, plan.only.as_slice(), out)?;
+    put_regions(symbols, "switches", plan.regions.switches.as_slice(), out)?;
+    put_regions(symbols, "raises", plan.regions.raises.as_slice(), out)?;
     put_looked_for(alloc, symbols, plan, out)?;
     put_gone(alloc, counts.tried, counts.ended, out)?;
     put_cut(alloc, counts.out_of_events, "--events", out)?;

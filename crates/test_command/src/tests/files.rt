@@ -176,6 +176,7 @@ const SEARCH: SearchOptions<'static> = SearchOptions {
     memory: 0,
     values: None,
     only: None,
+    raises_at: None,
 };
 
 /// The options of a journal that is made shorter.

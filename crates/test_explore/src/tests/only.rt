@@ -1,11 +1,13 @@
-//! Searches that preempt in regions alone.
+//! Searches that preempt in regions alone, and in which lines are raised in regions alone.
 
-use super::sources::{LOST_UPDATE, PETERSON, PETERSON_SWAPPED, REPAIRED, SAMPLED, STARTED, TWO};
+use super::sources::{
+    INTERRUPTED, LINED, LOST_UPDATE, PETERSON, PETERSON_SWAPPED, REPAIRED, SAMPLED, STARTED, TWO,
+};
 use brd_base::{List, NoMemory};
 use brd_board::{Board, Event};
 use brd_explore::{Bounds, Failure, Nobody, Wanted, did_nothing, stepper};
 use brd_image::build;
-use brd_only::{Inside, Region, find_inside};
+use brd_only::{Inside, Region, Regions, find_inside};
 use std::alloc::Global;
 use std::test::Fail;
 use test_help::none_wrong;
@@ -14,18 +16,23 @@ use test_help::none_wrong;
 struct Case {
     source: &'static str,
     config: &'static str,
-    /// Events, preemptions, ticks.
-    bounds: (u32, u32, u32),
+    /// Events, preemptions, ticks, raises.
+    bounds: (u32, u32, u32, u32),
     among: &'static [Event],
     /// The word at this address isn't this at the end.
     wrong: (u32, u32),
-    regions: &'static [Region],
+    /// In which a processor may be preempted; none: anywhere.
+    switches: &'static [Region],
+    /// In which somebody is while a line is raised; none: anywhere.
+    raises: &'static [Region],
     fails: bool,
 }
 
 const BOTH: &[Event] = &[Event::Step(1), Event::Step(2)];
 
 const TIMED: &[Event] = &[Event::Step(1), Event::Step(2), Event::Tick];
+
+const RAISED: &[Event] = &[Event::Step(1), Event::Raise(3)];
 
 /// The word that both add to.
 const COUNT: (u32, u32) = (0x8000_0000, 2);
@@ -59,87 +66,205 @@ const ALL: Region = Region {
     upto: 0x8001_0000,
 };
 
-/// An update is lost only by a preemption between the load and the store. Who preempts is about to execute the first
-/// instruction, which lies in none of the regions but the one before the load.
+/// The task's instructions up to its load, and the load.
+const LOADS: Region = Region {
+    from: 0x8000_0010,
+    upto: 0x8000_0018,
+};
+
+/// Behind the load, up to the store: there a raise takes an update away.
+const ADDS: Region = Region {
+    from: 0x8000_0018,
+    upto: 0x8000_0020,
+};
+
+/// Behind the store, up to the end of the task.
+const ENDS: Region = Region {
+    from: 0x8000_0020,
+    upto: 0x8000_0028,
+};
+
+/// The handler's instructions: nobody is there before a raise.
+const HANDLES: Region = Region {
+    from: 0x8000_0028,
+    upto: 0x8000_0040,
+};
+
+/// An update is lost only by a preemption between the load and the store, or with a handler by a raise there. Who
+/// preempts is about to execute the first instruction, which lies in none of the regions but the one before the load.
 const CASES: &[Case] = &[
     Case {
         source: LOST_UPDATE,
         config: TWO,
-        bounds: (60, 1, 0),
+        bounds: (60, 1, 0, 0),
         among: BOTH,
         wrong: COUNT,
-        regions: &[BEHIND],
+        switches: &[BEHIND],
+        raises: &[],
         fails: true,
     },
     Case {
         source: LOST_UPDATE,
         config: TWO,
-        bounds: (60, 1, 0),
+        bounds: (60, 1, 0, 0),
         among: BOTH,
         wrong: COUNT,
-        regions: &[STORE],
+        switches: &[STORE],
+        raises: &[],
         fails: true,
     },
     Case {
         source: LOST_UPDATE,
         config: TWO,
-        bounds: (60, 2, 0),
+        bounds: (60, 2, 0, 0),
         among: BOTH,
         wrong: COUNT,
-        regions: &[BEFORE],
+        switches: &[BEFORE],
+        raises: &[],
         fails: false,
     },
     Case {
         source: LOST_UPDATE,
         config: TWO,
-        bounds: (60, 2, 0),
+        bounds: (60, 2, 0, 0),
         among: BOTH,
         wrong: COUNT,
-        regions: &[BEFORE, AFTER],
+        switches: &[BEFORE, AFTER],
+        raises: &[],
         fails: false,
     },
     Case {
         source: LOST_UPDATE,
         config: TWO,
-        bounds: (60, 2, 0),
+        bounds: (60, 2, 0, 0),
         among: BOTH,
         wrong: COUNT,
-        regions: &[BEFORE, STORE],
+        switches: &[BEFORE, STORE],
+        raises: &[],
         fails: true,
     },
     Case {
         source: LOST_UPDATE,
         config: TWO,
-        bounds: (60, 2, 0),
+        bounds: (60, 2, 0, 0),
         among: BOTH,
         wrong: COUNT,
-        regions: &[],
+        switches: &[],
+        raises: &[],
+        fails: true,
+    },
+    Case {
+        source: LOST_UPDATE,
+        config: TWO,
+        bounds: (60, 1, 0, 0),
+        among: BOTH,
+        wrong: COUNT,
+        switches: &[],
+        raises: &[BEFORE],
+        fails: true,
+    },
+    Case {
+        source: LOST_UPDATE,
+        config: TWO,
+        bounds: (60, 2, 0, 0),
+        among: BOTH,
+        wrong: COUNT,
+        switches: &[BEFORE],
+        raises: &[BEHIND],
         fails: false,
     },
     Case {
         source: SAMPLED,
         config: STARTED,
-        bounds: (40, 0, 1),
+        bounds: (40, 0, 1, 0),
         among: TIMED,
         wrong: (0x8000_000c, 0),
-        regions: &[],
+        switches: &[],
+        raises: &[],
         fails: true,
+    },
+    Case {
+        source: INTERRUPTED,
+        config: LINED,
+        bounds: (60, 0, 0, 1),
+        among: RAISED,
+        wrong: COUNT,
+        switches: &[],
+        raises: &[],
+        fails: true,
+    },
+    Case {
+        source: INTERRUPTED,
+        config: LINED,
+        bounds: (60, 0, 0, 1),
+        among: RAISED,
+        wrong: COUNT,
+        switches: &[],
+        raises: &[ADDS],
+        fails: true,
+    },
+    Case {
+        source: INTERRUPTED,
+        config: LINED,
+        bounds: (60, 0, 0, 1),
+        among: RAISED,
+        wrong: COUNT,
+        switches: &[HANDLES],
+        raises: &[LOADS, ADDS],
+        fails: true,
+    },
+    Case {
+        source: INTERRUPTED,
+        config: LINED,
+        bounds: (60, 0, 0, 1),
+        among: RAISED,
+        wrong: COUNT,
+        switches: &[],
+        raises: &[LOADS],
+        fails: false,
+    },
+    Case {
+        source: INTERRUPTED,
+        config: LINED,
+        bounds: (60, 0, 0, 1),
+        among: RAISED,
+        wrong: COUNT,
+        switches: &[ADDS],
+        raises: &[LOADS, ENDS],
+        fails: false,
+    },
+    Case {
+        source: INTERRUPTED,
+        config: LINED,
+        bounds: (60, 0, 0, 1),
+        among: RAISED,
+        wrong: COUNT,
+        switches: &[],
+        raises: &[HANDLES],
+        fails: false,
     },
 ];
 
 /// Programs with two tasks, all of whose schedules are tried one by one.
 const SOURCES: &[&str] = &[LOST_UPDATE, REPAIRED, PETERSON, PETERSON_SWAPPED];
 
-/// The bounds of a case.
-fn bounds_of(bounds: (u32, u32, u32)) -> Bounds {
-    let (events, preemptions, ticks) = bounds;
+/// The bounds of a case. All raises are owed.
+fn bounds_of(bounds: (u32, u32, u32, u32)) -> Bounds {
+    let (events, preemptions, ticks, raises) = bounds;
     Bounds {
         events,
         preemptions,
         ticks,
-        raises: 0,
-        owed: 0,
+        raises,
+        owed: raises,
     }
+}
+
+/// Regions of both kinds.
+fn regions_of(alloc: Global, switches: &[Region], raises: &[Region]) -> Option<Regions> {
+    let switches = List::from_slice(alloc, switches).ok()?;
+    let raises = List::from_slice(alloc, raises).ok()?;
+    Some(Regions { switches, raises })
 }
 
 /// A word that is to have a value at the end, and one that is never to be more than 1.
@@ -165,7 +290,7 @@ fn finds(
     board: &Board,
     bounds: Bounds,
     among: &[Event],
-    regions: &[Region],
+    regions: &Regions,
     wanted: &Wanted,
 ) -> Option<bool> {
     match find_inside(
@@ -192,12 +317,15 @@ fn goes_well(alloc: Global, case: &Case) -> bool {
     let Some(wanted) = wanted_of(alloc, case.wrong) else {
         return false;
     };
+    let Some(regions) = regions_of(alloc, case.switches, case.raises) else {
+        return false;
+    };
     let found = finds(
         alloc,
         &board,
         bounds_of(case.bounds),
         case.among,
-        case.regions,
+        &regions,
         &wanted,
     );
     found == Some(case.fails)
@@ -213,33 +341,48 @@ fn first_wrong(alloc: Global) -> Option<usize> {
     None
 }
 
-/// What fails only by a preemption inside a region is found with that region alone.
+/// What fails only by a preemption or a raise inside a region is found with that region alone.
 #[test]
-fn preemptions_come_in_regions(rt: HostRuntime) -> Result<(), Fail> {
+fn events_come_in_regions(rt: HostRuntime) -> Result<(), Fail> {
     none_wrong(first_wrong(rt.alloc()))
 }
 
-/// Whether an event preempts nobody, or somebody whose next instruction lies in a region.
-fn keeps(board: &Board, last: Option<u8>, event: Event, region: Region) -> bool {
-    let (Some(last), Event::Step(cpu)) = (last, event) else {
-        return true;
+/// Whether somebody executes on a processor whose next instruction lies in one of the regions.
+fn is_at(board: &Board, cpu: u8, regions: &[Region]) -> bool {
+    let Some(context) = board.registers(cpu) else {
+        return false;
     };
-    if last == cpu {
-        return true;
+    for region in regions {
+        if region.from <= context.pc() && context.pc() < region.upto {
+            return true;
+        }
     }
-    match board.registers(last) {
-        Some(context) => region.from <= context.pc() && context.pc() < region.upto,
-        None => false,
+    false
+}
+
+/// Whether an event keeps to regions.
+fn keeps(board: &Board, last: Option<u8>, event: Event, regions: &Regions) -> bool {
+    let switches = regions.switches.as_slice();
+    let raises = regions.raises.as_slice();
+    match (event, last) {
+        (Event::Step(cpu), Some(last)) => {
+            last == cpu || switches.is_empty() || is_at(board, last, switches)
+        }
+        (Event::Raise(_), _) => {
+            raises.is_empty() || is_at(board, 1, raises) || is_at(board, 2, raises)
+        }
+        _ => true,
     }
 }
 
-/// Whether some schedule fails of those that keep to a region, of so many events at most: all of them are tried.
+/// Whether some schedule fails of those that keep to regions, of so many events at most: all of them are tried.
 fn one_fails(
     board: &Board,
     left: Bounds,
     last: Option<u8>,
     depth: u32,
-    region: Region,
+    among: &[Event],
+    regions: &Regions,
     wanted: &Wanted,
 ) -> Result<bool, NoMemory> {
     if wanted.fails_at(board, left)? {
@@ -248,13 +391,13 @@ fn one_fails(
     if depth == 0 {
         return Ok(false);
     }
-    for event in BOTH {
-        if left.affords(last, *event) && keeps(board, last, *event, region) {
+    for event in among {
+        if left.affords(last, *event) && keeps(board, last, *event, regions) {
             let mut copy = board.try_copy()?;
             let did = !did_nothing(copy.event_apart(*event));
             let rest = left.spent(last, *event);
             let next = stepper(&copy, last, *event);
-            if did && one_fails(&copy, rest, next, depth - 1, region, wanted)? {
+            if did && one_fails(&copy, rest, next, depth - 1, among, regions, wanted)? {
                 return Ok(true);
             }
         }
@@ -263,30 +406,72 @@ fn one_fails(
 }
 
 /// Whether a search comes to what all schedules come to, tried one by one.
-fn agrees(alloc: Global, board: &Board, events: u32, region: Region, wanted: &Wanted) -> bool {
-    let bounds = bounds_of((events, 2, 0));
-    match one_fails(board, bounds, None, events, region, wanted) {
-        Ok(fails) => finds(alloc, board, bounds, BOTH, &[region], wanted) == Some(fails),
+fn agrees(
+    alloc: Global,
+    board: &Board,
+    bounds: Bounds,
+    among: &[Event],
+    regions: &Regions,
+    wanted: &Wanted,
+) -> bool {
+    match one_fails(board, bounds, None, bounds.events, among, regions, wanted) {
+        Ok(fails) => finds(alloc, board, bounds, among, regions, wanted) == Some(fails),
         Err(_) => false,
     }
 }
 
-/// Whether it does so for a program, with regions of up to three instructions, and with all as one.
-fn agrees_everywhere(alloc: Global, source: &str) -> bool {
+/// Whether it does so for a program of two tasks that may be preempted in a region.
+fn agrees_inside(alloc: Global, source: &str, region: Region) -> bool {
     let Ok(board) = build(alloc, source.as_bytes(), TWO.as_bytes()) else {
         return false;
     };
     let Some(wanted) = wanted_of(alloc, COUNT) else {
         return false;
     };
+    let Some(regions) = regions_of(alloc, &[region], &[]) else {
+        return false;
+    };
+    agrees(
+        alloc,
+        &board,
+        bounds_of((14, 2, 0, 0)),
+        BOTH,
+        &regions,
+        &wanted,
+    )
+}
+
+/// Whether it does so for the task with a handler, whose line is raised twice at most, in a region.
+fn agrees_raised(alloc: Global, region: Region) -> bool {
+    let Ok(board) = build(alloc, INTERRUPTED.as_bytes(), LINED.as_bytes()) else {
+        return false;
+    };
+    let Some(wanted) = wanted_of(alloc, (0x8000_0000, 3)) else {
+        return false;
+    };
+    let Some(regions) = regions_of(alloc, &[], &[region]) else {
+        return false;
+    };
+    agrees(
+        alloc,
+        &board,
+        bounds_of((24, 0, 0, 2)),
+        RAISED,
+        &regions,
+        &wanted,
+    )
+}
+
+/// Whether a search does so for a program, with regions of up to three instructions, and with all as one.
+fn agrees_everywhere(alloc: Global, source: &str) -> bool {
     for place in 0..8u32 {
         let from = 0x8000_0010 + place * 8;
         let upto = from + 4 + place % 3 * 4;
-        if !agrees(alloc, &board, 14, Region { from, upto }, &wanted) {
+        if !agrees_inside(alloc, source, Region { from, upto }) {
             return false;
         }
     }
-    agrees(alloc, &board, 14, ALL, &wanted)
+    agrees_inside(alloc, source, ALL)
 }
 
 /// The first program of which a search comes to something else.
@@ -303,4 +488,26 @@ fn first_other(alloc: Global) -> Option<usize> {
 #[test]
 fn all_schedules_agree(rt: HostRuntime) -> Result<(), Fail> {
     none_wrong(first_other(rt.alloc()))
+}
+
+/// The first region with which a search with raises comes to something else.
+fn first_raised_otherwise(alloc: Global) -> Option<u32> {
+    for place in 0..12u32 {
+        let from = 0x8000_0010 + place * 4;
+        let upto = from + 4 + place % 3 * 4;
+        if !agrees_raised(alloc, Region { from, upto }) {
+            return Some(place);
+        }
+    }
+    if agrees_raised(alloc, ALL) {
+        None
+    } else {
+        Some(12)
+    }
+}
+
+/// So they do where lines are raised in a region alone.
+#[test]
+fn all_raises_agree(rt: HostRuntime) -> Result<(), Fail> {
+    none_wrong(first_raised_otherwise(rt.alloc()))
 }

@@ -6,7 +6,9 @@ use brd_board::{Board, Event};
 use brd_explore::{Comparison, Failure};
 use brd_image::build;
 use brd_mem::Symbol;
-use brd_search::{Looks, SearchFault, SearchOptions, Sizes, plan_of, shown_events, wanted_of};
+use brd_search::{
+    Looks, RegionFault, SearchFault, SearchOptions, Sizes, plan_of, shown_events, wanted_of,
+};
 use std::alloc::Global;
 use std::test::Fail;
 use test_help::none_wrong;
@@ -45,6 +47,7 @@ const OPTIONS: SearchOptions = SearchOptions {
     memory: 0,
     values: None,
     only: None,
+    raises_at: None,
 };
 
 /// Options, and what is wrong with them.
@@ -300,56 +303,56 @@ const FAULTS: &[(SearchOptions<'static>, SearchFault)] = &[
             only: Some("0x80000010"),
             ..OPTIONS
         },
-        SearchFault::Only,
+        SearchFault::Only(RegionFault::Form),
     ),
     (
         SearchOptions {
             only: Some("0x80000010.0x80000020"),
             ..OPTIONS
         },
-        SearchFault::Only,
+        SearchFault::Only(RegionFault::Form),
     ),
     (
         SearchOptions {
             only: Some("0x80000010.."),
             ..OPTIONS
         },
-        SearchFault::OnlySymbol,
+        SearchFault::Only(RegionFault::NoSymbol),
     ),
     (
         SearchOptions {
             only: Some("..0x80000010"),
             ..OPTIONS
         },
-        SearchFault::OnlySymbol,
+        SearchFault::Only(RegionFault::NoSymbol),
     ),
     (
         SearchOptions {
             only: Some("main..0x80000020"),
             ..OPTIONS
         },
-        SearchFault::OnlySymbol,
+        SearchFault::Only(RegionFault::NoSymbol),
     ),
     (
         SearchOptions {
             only: Some("0x80000010..0x80000020,"),
             ..OPTIONS
         },
-        SearchFault::Only,
+        SearchFault::Only(RegionFault::Form),
     ),
     (
         SearchOptions {
             only: Some("0x80000010..0x80000010"),
             ..OPTIONS
         },
-        SearchFault::OnlyEmpty,
+        SearchFault::Only(RegionFault::Empty),
     ),
     (
         SearchOptions {
             only: Some("0x80000010..0x80000020,0x80000010..0x80000020"),
             ..OPTIONS
         },
-        SearchFault::OnlyTwice,
+        SearchFault::Only(RegionFault::Twice),
     ),
     (
         SearchOptions {
@@ -382,6 +385,96 @@ const FAULTS: &[(SearchOptions<'static>, SearchFault)] = &[
             ..OPTIONS
         },
         SearchFault::OnlyAlone,
+    ),
+    (
+        SearchOptions {
+            raises: Some("1"),
+            lines: Some("3"),
+            raises_at: Some("0x80000010"),
+            ..OPTIONS
+        },
+        SearchFault::RaisesAt(RegionFault::Form),
+    ),
+    (
+        SearchOptions {
+            raises: Some("1"),
+            lines: Some("3"),
+            raises_at: Some("0x80000010..0x80000020,"),
+            ..OPTIONS
+        },
+        SearchFault::RaisesAt(RegionFault::Form),
+    ),
+    (
+        SearchOptions {
+            raises: Some("1"),
+            lines: Some("3"),
+            raises_at: Some("main..0x80000020"),
+            ..OPTIONS
+        },
+        SearchFault::RaisesAt(RegionFault::NoSymbol),
+    ),
+    (
+        SearchOptions {
+            raises: Some("1"),
+            lines: Some("3"),
+            raises_at: Some("0x80000010..0x80000010"),
+            ..OPTIONS
+        },
+        SearchFault::RaisesAt(RegionFault::Empty),
+    ),
+    (
+        SearchOptions {
+            raises: Some("1"),
+            lines: Some("3"),
+            raises_at: Some("0x80000010..0x80000020,0x80000010..0x80000020"),
+            ..OPTIONS
+        },
+        SearchFault::RaisesAt(RegionFault::Twice),
+    ),
+    (
+        SearchOptions {
+            raises: Some("1"),
+            lines: Some("3"),
+            only: Some("0x80000010..0x80000020"),
+            raises_at: Some("0x80000010"),
+            ..OPTIONS
+        },
+        SearchFault::RaisesAt(RegionFault::Form),
+    ),
+    (
+        SearchOptions {
+            raises: Some("1"),
+            lines: Some("3"),
+            raises_at: Some("0x80000010..0x80000020"),
+            lazy: 1,
+            ..OPTIONS
+        },
+        SearchFault::OnlyAlone,
+    ),
+    (
+        SearchOptions {
+            raises: Some("1"),
+            lines: Some("3"),
+            raises_at: Some("0x80000010..0x80000020"),
+            threads: 1,
+            ..OPTIONS
+        },
+        SearchFault::OnlyAlone,
+    ),
+    (
+        SearchOptions {
+            raises_at: Some("0x80000010..0x80000020"),
+            ..OPTIONS
+        },
+        SearchFault::NoRaises,
+    ),
+    (
+        SearchOptions {
+            raises: Some("0"),
+            raises_at: Some("0x80000010..0x80000020"),
+            ..OPTIONS
+        },
+        SearchFault::NoRaises,
     ),
 ];
 

@@ -29,6 +29,27 @@ pub const STOPPED: &str = "PROFILE(STANDARD); BOARD(1, 0x10000);
     CRE_TSK(1, {TA_ACT, 0, main, 1, 256, NULL});
     CRE_CYC(1, {TA_HLNG, 0, sample, 1, 0});";
 
+/// A task, and a handler of line 3.
+pub const LINED: &str = "BOARD(1, 0x10000);
+    CRE_TSK(1, {TA_ACT, 0, main, 1, 256, NULL});
+    DEF_INH(3, {TA_ASM, handle});";
+
+/// Both the task and the handler add 1 to the word at 0x80000000.
+pub const INTERRUPTED: &str = "count: .word 0, 0, 0, 0
+main:   lui   $s0, %hi(count)
+        lw    $t0, %lo(count)($s0)
+        addiu $t0, $t0, 1
+        sw    $t0, %lo(count)($s0)
+        addiu $v0, $0, 3
+        syscall
+handle: lui   $s0, %hi(count)
+        lw    $t0, %lo(count)($s0)
+        addiu $t0, $t0, 1
+        sw    $t0, %lo(count)($s0)
+        addiu $v0, $0, 58
+        syscall
+";
+
 /// The task sleeps, and the handler stores 2 into the word at 0x8000000c.
 pub const SAMPLED: &str = "words: .word 0, 0, 0, 0
 main:   addiu $v0, $0, 16

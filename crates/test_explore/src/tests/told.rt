@@ -161,6 +161,7 @@ fn options_of(case: &Case) -> SearchOptions<'static> {
         memory: 0,
         values: None,
         only: None,
+        raises_at: None,
     }
 }
 

@@ -18,12 +18,15 @@ returns c =
     let with_11 = c.in_ok-arg-11.ensures.shape c.count-6.ensures.own ∙ ap₂ with_rule with_10 c.count-6.ensures.rule in
     let with_12 = c.in_ok-arg-12.ensures.shape c.option-3.ensures.own ∙ ap₂ with_rule with_11 c.option-3.ensures.rule in
     let with_13 = c.in_ok-arg-13.ensures.shape c.option-4.ensures.own ∙ ap₂ with_rule with_12 c.option-4.ensures.rule in
-    let with_14 = c.in_ok-command.ensures.shape c.data_option.ensures.own ∙ ap₂ with_rule with_13 c.data_option.ensures.rule in
+    let with_14 = c.in_ok-arg-14.ensures.shape c.option-5.ensures.own ∙ ap₂ with_rule with_13 c.option-5.ensures.rule in
+    let with_15 = c.in_ok-command.ensures.shape c.data_option.ensures.own ∙ ap₂ with_rule with_14 c.data_option.ensures.rule in
     record {
-      shape = with_14;
+      shape = with_15;
       globals = λ none_yet. rw (
         c.in_ok-command.ensures.globals,
         c.data_option.ensures.own,
+        c.in_ok-arg-14.ensures.globals,
+        c.option-5.ensures.own,
         c.in_ok-arg-13.ensures.globals,
         c.option-4.ensures.own,
         c.in_ok-arg-12.ensures.globals,

@@ -12,4 +12,4 @@ loop-event-preserved c =
     (spot_of c.loop-event.there c.loop-event.margin) (spot_of c.play.new.board c.in-Some.rest) c.args.events.now
     c.loop-event.event-index _ c.loop-event-test.true
     (sym (get_or_default c.args.events.now c.loop-event.event-index (Step 0) _ c.loop-event-test.true))
-    c.loop-event.invariant (sym c.switches_inside.ensures ∙ c.if-not-switches_inside.false) c.in-Some.ensures
+    c.loop-event.invariant (sym c.keeps_to.ensures ∙ c.if-not-keeps_to.false) c.in-Some.ensures

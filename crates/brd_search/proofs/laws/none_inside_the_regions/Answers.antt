@@ -1,5 +1,6 @@
-use Rattle.brd_search.proofs.RegionLemmas.{none-in}
+use Rattle.std.proofs.Common.{subst}
+use Rattle.brd_search.specs.Searches.{NoneIn}
 use Rattle.brd_search.proofs.laws.none_inside_the_regions.Goals as goal
 
 pub returns : goal.returns
-returns c = λ plan b bounds some none. none-in plan.only plan b bounds some none
+returns c = λ plan b bounds some none. subst (λ anywhere. NoneIn anywhere plan b bounds) some none

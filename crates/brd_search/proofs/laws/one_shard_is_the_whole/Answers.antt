@@ -10,4 +10,4 @@ returns c = λ plan b bounds is whole none.
     c.shards_are_the_whole.ensures 1 (omega arith) plan.wanted plan.among (start b bounds)
     (λ shard of below. subst (λ s. NoneFailsInShard plan.wanted s plan.among (start b bounds))
     (one_shard plan.shard shard is of below)
-    (subst (λ only. NoneIn only plan b bounds) whole none))
+    (subst (λ anywhere. NoneIn anywhere plan b bounds) whole none))
