@@ -20,7 +20,11 @@ whatever they hold (docs/MACHINE.md), in a delay slot or not. It sleeps while ot
 none of which calls the kernel, raises an exception or changes the word of that instruction; whatever else happens wakes
 it. All that was done while it sleeps could have been done just before its instruction. So a step of it is left out
 where another processor has stepped last: that switch could have come one instruction earlier. One sleeper is kept in
-mind, the first. Nobody sleeps on the trunk or where a branch leaves it, and with a fair end nothing is left out.
+mind, the first. With a fair end nothing is left out.
+
+With a shard the schedules are dealt out by their second preemption, tick or raise, by the first if the bounds have only
+one, in turn by how many events are left after it; a schedule that is never dealt out is in every shard, and counted in
+the first.
 """
 import argparse
 import collections
@@ -256,8 +260,7 @@ class Search:
         return choices(left) < (bounds - 1 if bounds > 1 else bounds)
 
     def is_others(self, place, after):
-        """Whether an event deals the schedule to another shard. A schedule that is never dealt out is in every shard, and
-        the first one counts it."""
+        """Whether an event deals the schedule to another shard."""
         number, of = self.shard
         is_deal = self.is_dealt(after.left) and not self.is_dealt(place.left)
         return is_deal and after.left.events % of != number - 1
