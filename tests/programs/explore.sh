@@ -236,13 +236,15 @@ wrong=$(is_lazily_none "$(bounds --events 20000 --preemptions 0)" $?)
 explores "${wide[@]}" --memory 1
 verdict "explore: more places than fit into a MiB" \
     "$wrong$(grep -q '^none of 2 schedules fails: ' "$work/out" || head -c 300 "$work/out")"
-# Places take no more memory than is said: without a bound these would be above 20 MiB. (Python itself takes less.)
+# Places take no more memory than is said: without a bound these would be above 100 MiB. (Python itself takes less.)
+sed 's/1500/30000/' "$work/stores.s" > "$work/many.s"
+"$board" asm "$work/many.s" "$work/many"
 what="explore: no more memory than --memory says"
 if have python3 "$what"; then
     taken=$(python3 -c 'import resource, subprocess, sys
 subprocess.run(sys.argv[1:], stdout=subprocess.DEVNULL, stderr=subprocess.DEVNULL)
-print(resource.getrusage(resource.RUSAGE_CHILDREN).ru_maxrss)' "$board" explore "$work/stores" $examples/lost_update.cfg \
-        --exception --events 600 --memory 16 --threads 1 --time 5)
+print(resource.getrusage(resource.RUSAGE_CHILDREN).ru_maxrss)' "$board" explore "$work/many" $examples/lost_update.cfg \
+        --exception --events 400000 --preemptions 0 --memory 16 --threads 1)
     verdict "$what" "$([ "$taken" -le $((24 * 1024)) ] || echo "$taken KiB")"
 fi
 how=(--memory 0)
@@ -537,7 +539,7 @@ for most in 1 2; do
     verdict "explore: the shortest with $most preemptions" "$wrong"
 done
 explores "$work/racy" examples/lost_update/racy.cfg --console 9 --ends
-grep -q '^fails after 60 events: the console is "6", not "9"$' "$work/out"
+grep -q '^fails after 60 events: the console is "3", not "9"$' "$work/out"
 verdict "explore: what the console is" "$([ $? = 0 ] || head -n 1 "$work/out")"
 assembled interrupt.s
 (ulimit -t 20; exec "$board" explore "$image" $examples/interrupt.cfg --preemptions 100000 --memory 0) < /dev/null > "$work/out" \

@@ -255,10 +255,9 @@ the repair should be by ll and sc, on both processors: on processor 1 no sc has 
 the repair should be by ll and sc, on both processors: on processor 2 no sc has stored
 with 5 seats the seller on processor 1 should sell some: it tries twice, and of its stores 1 take one away
 a schedule of lab.s fails: fails after 64 events: the console is "4", not "3"
-    event 0  processor 2 goes on at seller
-    event 3  processor 2 stops before beq $t0, $zero, 0x8000001c at try+0x4; processor 1 goes on at seller
-    event 34  processor 2 goes on at try+0x4
-    event 57  processor 1 goes on at tell+0x14
+    event 0  processor 1 goes on at seller
+    event 13  processor 1 stops before sw $t0, 128($s0) at try+0xc; processor 2 goes on at seller
+    event 39  processor 1 goes on at try+0xc
 END
 solved 3
 edited '/^( *)beqz( *)\$t0, try$/d'
@@ -326,8 +325,9 @@ looked "the beginning" 4 1 << 'END'
 with the letters ckxf and room for 1 it should write these, and writes 'ccffffffffffffffffffffffffffffffffffffff'
     trace --summary: refused: psnd_dtq(1, 0x0000006b) = E_TMOUT at event 12, at send+0xc (80000014), and 2 times after it
     trace --summary: refused: prcv_dtq(1) = E_TMOUT at event 33, at consumer+0x8 (80000030), and 142 times after it
-a schedule of lab.s fails: fails after 7 events: the console is "", not "ckxf"
-    event 0  processor 2 goes on at consumer
+a schedule of lab.s fails: fails after 50 events: the console is "cc", not "ckxf"
+    event 0  processor 1 goes on at producer
+    event 34  processor 2 goes on at consumer
 END
 solved 4
 edited 's/^( *)\.equ( *)snd_dtq, 33/\1.equ\2snd_dtq, 34/'
@@ -361,7 +361,7 @@ with ticks at events 30 and 42 it should write Zc, and writes 'cZ'
 with ticks at events 36 and 40 it should write Zc, and writes 'cZ'
 a schedule of lab.s fails: fails after 109 events: the console is "c", not "Zc"
     event 0  processor 1 goes on at high
-    event 9  a tick
+    event 54  a tick
     event 58  a tick
 END
 begun 5
@@ -370,7 +370,7 @@ edited '/^had:/!{/^low:/,/^use:/s/^        lui     \$s0, %hi\(given\)/had:&/; s/
 looked "as urgent as high, but only once it has the bus" 5 1 << 'END'
 a schedule of lab.s fails: fails after 67 events: the console is "c", not "Zc"
     event 0  processor 1 goes on at high
-    event 9  a tick
+    event 12  a tick
     event 16  a tick
 END
 solved 5
