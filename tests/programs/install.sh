@@ -88,7 +88,7 @@ for it in $commands; do
 done
 verdict "bash completes the options of each command" "$wrong"
 verdict "bash completes commands" "$(diff <(echo "$commands"; echo help) <(completed board '' | grep -v '^-'))"
-verdict "bash completes a part" "$(diff <(printf '%s\n' --raises --raises-at --reach --remember) <(completed board explore --r))"
+verdict "bash completes a part" "$(diff <(printf '%s\n' --raises --reach --remember --raises-at) <(completed board explore --r))"
 verdict "bash completes files where a value stands" "$(completed board explore --events | grep -v '^--events$'
     completed board trace --from - | grep .)"
 if have zsh "completions for zsh"; then
