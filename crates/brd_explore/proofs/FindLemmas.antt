@@ -1,6 +1,6 @@
 -- What the turns of a search come to.
 use Rattle.std.proofs.Common.{◌≡◌, ℕ, List, [], ◌∷◌, ◌++◌, take, sym, ap, subst, ◌∙◌, arith}
-use Rattle.std.specs.Prelude.{Bool, true, false, All, Option, None}
+use Rattle.std.specs.Prelude.{Bool, true, false, All, Option}
 use Rattle.std.proofs.lemmas.Bool.{false≢true}
 use Rattle.std.proofs.lemmas.List.Elements.{All-push}
 use Rattle.brd_board.specs.declared.event.Event.{Event}
@@ -9,7 +9,7 @@ use Rattle.brd_explore.specs.declared.search.Saved.{Saved}
 use Rattle.brd_explore.specs.declared.wanted.Wanted.{Wanted}
 use Rattle.brd_explore.specs.Schedules.{Place}
 use Rattle.brd_explore.specs.Failures.{fails_at}
-use Rattle.brd_explore.specs.Searching.{place_of, place_of_saved, spot_of, NoneLeft, NoneFails, NoneGoes, Leads, AreOnPath, IsOnPath, AreAlike, IsSized, Takes, TriesOr, HasGoneOr, HasStayed, HasGoneBack, LeavesOut, LeadsOn, Finds, Answers, ended_by}
+use Rattle.brd_explore.specs.Searching.{place_of, place_of_saved, spot_of, NoneLeft, NoneFails, NoneGoes, Leads, AreOnPath, IsOnPath, AreAlike, IsSized, Takes, TriesOr, HasGoneOr, HasStayed, HasGoneBack, LeavesOut, LeadsOn, Finds, Answers, Begins, ended_by}
 use Rattle.brd_explore.specs.Sleeping.{awake}
 use Rattle.brd_explore.proofs.AwakeLemmas.{none-awake}
 use Rattle.brd_explore.proofs.SizeLemmas.{alike-after}
@@ -44,15 +44,6 @@ back-same s t u saved path back = record {
   fresh = back.fresh;
   path = subst (λ es. u.path.items ≡ take back.f.len es) path back.path;
 }
-
--- how a search begins
-pub record Begins (from : Place) (s : Search) : Type 0 where
-  pub place : place_of s ≡ from
-  pub at : s.at ≡ 0
-  pub fresh : s.fresh ≡ true
-  pub path : s.path.items ≡ []
-  pub saved : s.saved.items ≡ []
-  pub awake : s.asleep ≡ None
 
 pub begins-on : (among : List Event) (from : Place) (s : Search) → Begins from s → IsOnPath among from s
 begins-on among from s begins = record {

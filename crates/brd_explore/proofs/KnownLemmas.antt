@@ -11,9 +11,10 @@ use Rattle.brd_explore.specs.declared.search.Turn.TheVariants as turn
 use Rattle.brd_explore.specs.declared.known.Kept.{Kept}
 use Rattle.brd_explore.specs.declared.known.Known.{Known}
 use Rattle.brd_explore.specs.declared.wanted.Wanted.{Wanted}
-use Rattle.brd_explore.specs.Schedules.{Place, is_left, event_at}
+use Rattle.brd_explore.specs.Schedules.{Place, is_left}
 use Rattle.brd_explore.specs.Sleeping.{is_left_out}
 use Rattle.brd_explore.specs.Failures.{fails_at}
+use Rattle.brd_explore.specs.Ordering.{event_tried}
 use Rattle.brd_explore.specs.Searching.{NoneGoes, NoneHere, IsTooMuch, HasGone, HasStayed, HasPassed, HasGoneBack, KeepsOr, IsOnPath, LeavesOut, LeadsOn, HasLess, turns_left, place_of, spot_of}
 use Rattle.brd_explore.specs.Knowing.{spot_of_kept, AreDone, AreOver, ArePending, IsKeptOf, IsPending, Knows, KnowsOn, Leaves, Notes}
 use Rattle.brd_explore.proofs.FindLemmas.{back-same}
@@ -33,7 +34,7 @@ back-length s t back = omega (arith, ap length back.saved, length-append t.saved
 -- one pending place
 
 pending-gone : (wanted : Wanted) (among : List Event) (s t : Search) (at : ℕ) (k : Kept) → s.at ≤ at → at < length among →
-    is_left (place_of s) (event_at among at) ≡ true → IsTooMuch among (place_of s) s.at at → HasGone among s at t → fails_at wanted t.board t.left ≡ false →
+    is_left (place_of s) (event_tried among s.last at) ≡ true → IsTooMuch among (place_of s) s.at at → HasGone among s at t → fails_at wanted t.board t.left ≡ false →
     IsPending wanted among s k → IsPending wanted among t k
 pending-gone wanted among s t at k on below left much gone fine (inl none) = inl none
 pending-gone wanted among s t at k on below left much gone fine (inr if) = inr (
@@ -50,7 +51,7 @@ pending-stayed wanted among s t at k on much stayed (inr if) = inr (
 )
 
 pending-passed : (wanted : Wanted) (among : List Event) (s t : Search) (at : ℕ) (k : Kept) → s.at ≤ at → at < length among →
-    is_left (place_of s) (event_at among at) ≡ true → IsTooMuch among (place_of s) s.at at → is_left_out wanted (spot_of s) (event_at among at) ≡ true →
+    is_left (place_of s) (event_tried among s.last at) ≡ true → IsTooMuch among (place_of s) s.at at → is_left_out wanted (spot_of s) (event_tried among s.last at) ≡ true →
     HasPassed s at t → IsPending wanted among s k → IsPending wanted among t k
 pending-passed wanted among s t at k on below left much out passed (inl none) = inl none
 pending-passed wanted among s t at k on below left much out passed (inr if) = inr (
@@ -81,7 +82,7 @@ pending-noted wanted among t k at fine is = inr (
 -- all that is known
 
 pub knows-gone : (wanted : Wanted) (among : List Event) (s t : Search) (known : Known) (at : ℕ) → s.at ≤ at → at < length among →
-    is_left (place_of s) (event_at among at) ≡ true → IsTooMuch among (place_of s) s.at at → HasGone among s at t → fails_at wanted t.board t.left ≡ false →
+    is_left (place_of s) (event_tried among s.last at) ≡ true → IsTooMuch among (place_of s) s.at at → HasGone among s at t → fails_at wanted t.board t.left ≡ false →
     Knows wanted among s known → Knows wanted among t known
 knows-gone wanted among s t known at on below left much gone fine knows = record {
   done = knows.done;
@@ -98,7 +99,7 @@ knows-stayed wanted among s t known at on much stayed knows = record {
 }
 
 pub knows-passed : (wanted : Wanted) (among : List Event) (s t : Search) (known : Known) (at : ℕ) → s.at ≤ at → at < length among →
-    is_left (place_of s) (event_at among at) ≡ true → IsTooMuch among (place_of s) s.at at → is_left_out wanted (spot_of s) (event_at among at) ≡ true →
+    is_left (place_of s) (event_tried among s.last at) ≡ true → IsTooMuch among (place_of s) s.at at → is_left_out wanted (spot_of s) (event_tried among s.last at) ≡ true →
     HasPassed s at t → Knows wanted among s known → Knows wanted among t known
 knows-passed wanted among s t known at on below left much out passed knows = record {
   done = knows.done;
@@ -154,7 +155,7 @@ leaves-out wanted among s t turn.Over here leaves = leaves-over wanted among s h
 -- after having gone on to a place that is known
 
 pub leaves-out-gone : (wanted : Wanted) (among : List Event) (s t u : Search) (at : ℕ) (end : Turn) → s.at ≤ at → at < length among →
-    is_left (place_of s) (event_at among at) ≡ true → IsTooMuch among (place_of s) s.at at → HasGone among s at t → fails_at wanted t.board t.left ≡ false →
+    is_left (place_of s) (event_tried among s.last at) ≡ true → IsTooMuch among (place_of s) s.at at → HasGone among s at t → fails_at wanted t.board t.left ≡ false →
     LeavesOut wanted among t u end → LeavesOut wanted among s u end
 leaves-out-gone wanted among s t u at turn.On on below left much gone fine out =
     λ none. leaves-gone wanted among 0 s t at (omega arith) on below left much gone fine (out none)

@@ -8,7 +8,8 @@ use Rattle.brd_board.specs.declared.event.Event.TheVariants.{Step, Tick, Raise}
 use Rattle.brd_explore.specs.declared.bounds.Bounds.{Bounds}
 use Rattle.brd_explore.specs.declared.search.Search.{Search}
 use Rattle.brd_explore.specs.declared.search.Saved.{Saved}
-use Rattle.brd_explore.specs.Schedules.{Place, affords, affords_one, spent, is_left, event_at}
+use Rattle.brd_explore.specs.Schedules.{Place, affords, affords_one, spent, is_left}
+use Rattle.brd_explore.specs.Ordering.{event_tried}
 use Rattle.brd_explore.specs.Searching.{place_of, most_turns, most_saved, turns_left, KeepsOr, HasGoneOr, HasStayed, HasPassed, HasGoneBack}
 
 -- something is left for an event, so one event fewer is left after it
@@ -58,7 +59,7 @@ Events p = p.left.events
 
 gone-place : {Else : Type 0} (among : List Event) (s t : Search) (at left : ℕ) → s.left.events ≡ suc left → HasGoneOr Else among s at t → t.left.events ≡ left
 gone-place among s t at left is gone =
-    let here : t.left.events ≡ s.left.events - 1 = ap Events gone.place ∙ one-fewer s.left s.last (event_at among at) in
+    let here : t.left.events ≡ s.left.events - 1 = ap Events gone.place ∙ one-fewer s.left s.last (event_tried among s.last at) in
     omega (arith, here, is)
 
 kept-less : {Else : Type 0} (among : List Event) (s t : Search) (at left : ℕ) → s.at ≤ at → at < length among → s.left.events ≡ suc left → KeepsOr Else s at t →
@@ -76,33 +77,33 @@ kept-less among s t at left on below is (inr more) =
     < most_turns (length among) (suc left) s.at + most_saved (length among) s.saved.items) (sym more.1)
     (omega (arith, tried-one (length among) left s.at at on below, saved-more (length among) s.saved.items f, here))
 
-pub less-gone : {Else : Type 0} (among : List Event) (s t : Search) (at : ℕ) → s.at ≤ at → at < length among → is_left (place_of s) (event_at among at) ≡ true →
+pub less-gone : {Else : Type 0} (among : List Event) (s t : Search) (at : ℕ) → s.at ≤ at → at < length among → is_left (place_of s) (event_tried among s.last at) ≡ true →
     HasGoneOr Else among s at t → turns_left among t < turns_left among s
 less-gone among s t at on below left gone =
-    let after = (spent s.left s.last (event_at among at)).events in
-    let is : s.left.events ≡ suc after = left-after (place_of s) (event_at among at) left in
+    let after = (spent s.left s.last (event_tried among s.last at)).events in
+    let is : s.left.events ≡ suc after = left-after (place_of s) (event_tried among s.last at) left in
     let less = kept-less among s t at after on below is gone.saved in
     let here : most_turns (length among) t.left.events t.at ≡ most_turns (length among) after 0 =
     ap (λ k. most_turns (length among) k t.at) (gone-place among s t at after is gone) ∙ ap (most_turns (length among) after) gone.at in
     let before : most_turns (length among) s.left.events s.at ≡ most_turns (length among) (suc after) s.at = ap (λ k. most_turns (length among) k s.at) is in
     omega (arith, less, here, before)
 
-less-later : (among : List Event) (s t : Search) (at : ℕ) → s.at ≤ at → at < length among → is_left (place_of s) (event_at among at) ≡ true →
+less-later : (among : List Event) (s t : Search) (at : ℕ) → s.at ≤ at → at < length among → is_left (place_of s) (event_tried among s.last at) ≡ true →
     place_of t ≡ place_of s → t.at ≡ at + 1 → t.saved.items ≡ s.saved.items → turns_left among t < turns_left among s
 less-later among s t at on below left place later kept =
-    let after = (spent s.left s.last (event_at among at)).events in
-    let is : s.left.events ≡ suc after = left-after (place_of s) (event_at among at) left in
+    let after = (spent s.left s.last (event_tried among s.last at)).events in
+    let is : s.left.events ≡ suc after = left-after (place_of s) (event_tried among s.last at) left in
     let here : most_turns (length among) t.left.events t.at ≡ most_turns (length among) (suc after) (at + 1) =
     ap (λ k. most_turns (length among) k t.at) (ap Events place ∙ is) ∙ ap (most_turns (length among) (suc after)) later in
     let before : most_turns (length among) s.left.events s.at ≡ most_turns (length among) (suc after) s.at = ap (λ k. most_turns (length among) k s.at) is in
     let saved : most_saved (length among) t.saved.items ≡ most_saved (length among) s.saved.items = ap (most_saved (length among)) kept in
     omega (arith, tried-nothing (length among) after s.at at on below, here, before, saved)
 
-pub less-stayed : (among : List Event) (s t : Search) (at : ℕ) → s.at ≤ at → at < length among → is_left (place_of s) (event_at among at) ≡ true →
+pub less-stayed : (among : List Event) (s t : Search) (at : ℕ) → s.at ≤ at → at < length among → is_left (place_of s) (event_tried among s.last at) ≡ true →
     HasStayed among s at t → turns_left among t < turns_left among s
 less-stayed among s t at on below left stayed = less-later among s t at on below left stayed.place stayed.at stayed.saved
 
-pub less-passed : (among : List Event) (s t : Search) (at : ℕ) → s.at ≤ at → at < length among → is_left (place_of s) (event_at among at) ≡ true →
+pub less-passed : (among : List Event) (s t : Search) (at : ℕ) → s.at ≤ at → at < length among → is_left (place_of s) (event_tried among s.last at) ≡ true →
     HasPassed s at t → turns_left among t < turns_left among s
 less-passed among s t at on below left passed = less-later among s t at on below left passed.place passed.at passed.saved
 

@@ -1,5 +1,6 @@
 mod SizeLemmas
-mod FailureLemmas
+pub mod FailureLemmas
+mod OrderLemmas
 mod SearchLemmas
 mod PathLemmas
 mod FindLemmas

@@ -1,5 +1,5 @@
 -- The path of a search leads to where it is.
-use Rattle.std.proofs.Common.{◌≡◌, ℕ, ◌<◌, ◌≤◌, List, [], ◌∷◌, ◌++◌, length, take, refl, sym, ap, subst, ◌∙◌, arith, inl, inr}
+use Rattle.std.proofs.Common.{◌≡◌, ℕ, ◌<◌, ◌≤◌, List, [], ◌∷◌, ◌++◌, length, take, sym, ap, subst, ◌∙◌, arith, inl, inr}
 use Rattle.std.specs.Prelude.{true, if◌then◌else◌}
 use Rattle.std.proofs.lemmas.Bool.{false≢true}
 use Rattle.std.proofs.lemmas.List.{length-take-le, take_all, take-take, take-append-le, length-append}
@@ -7,10 +7,12 @@ use Rattle.brd_board.specs.declared.event.Event.{Event}
 use Rattle.brd_explore.specs.declared.search.Search.{Search}
 use Rattle.brd_explore.specs.declared.search.Saved.{Saved}
 use Rattle.brd_explore.specs.declared.wanted.Wanted.{Wanted}
-use Rattle.brd_explore.specs.Schedules.{Place, does, is_left, next, place_after, event_at, IsAmong, IsWithin}
+use Rattle.brd_explore.specs.Schedules.{Place, does, is_left, next, place_after, IsAmong, IsWithin}
+use Rattle.brd_explore.specs.Ordering.{event_tried}
 use Rattle.brd_explore.specs.Failures.{fails_at}
 use Rattle.brd_explore.specs.Searching.{FailsAt, IsFound, place_of, place_of_saved, Leads, AreOnPath, IsOnPath, HasGoneOr, HasStayed, HasPassed, HasGoneBack, KeepsOr}
 use Rattle.brd_explore.proofs.LessLemmas.{left-after}
+use Rattle.brd_explore.proofs.OrderLemmas.{tried-among}
 
 -- what leads to a place is within the bounds
 
@@ -92,19 +94,19 @@ on-kept among from s t at on (inr more) = subst (AreOnPath among from s.path.ite
     (on-saved among from s.path.items 0 s.saved.items more.0 on.saved more.4
     (subst (Leads among from s.path.items) (sym more.2) on.here))
 
-leads-gone : {Else : Type 0} (among : List Event) (from : Place) (s t : Search) (at : ℕ) → at < length among → is_left (place_of s) (event_at among at) ≡ true →
+leads-gone : {Else : Type 0} (among : List Event) (from : Place) (s t : Search) (at : ℕ) → at < length among → is_left (place_of s) (event_tried among s.last at) ≡ true →
     IsOnPath among from s → HasGoneOr Else among s at t → Leads among from t.path.items (place_of t)
 leads-gone among from s t at below left on gone =
     subst (Leads among from t.path.items) (sym gone.place)
-    (subst (λ es. Leads among from es (next (place_of s) (event_at among at))) (sym gone.path)
-    (leads-on among from s.path.items (place_of s) (event_at among at) on.here (record { at = at; within = below; is = refl }) left gone.did))
+    (subst (λ es. Leads among from es (next (place_of s) (event_tried among s.last at))) (sym gone.path)
+    (leads-on among from s.path.items (place_of s) (event_tried among s.last at) on.here (tried-among among s.last at below) left gone.did))
 
-pub on-gone : {Else : Type 0} (among : List Event) (from : Place) (s t : Search) (at : ℕ) → at < length among → is_left (place_of s) (event_at among at) ≡ true →
+pub on-gone : {Else : Type 0} (among : List Event) (from : Place) (s t : Search) (at : ℕ) → at < length among → is_left (place_of s) (event_tried among s.last at) ≡ true →
     IsOnPath among from s → HasGoneOr Else among s at t → IsOnPath among from t
 on-gone among from s t at below left on gone = record {
   here = leads-gone among from s t at below left on gone;
   saved = subst (λ es. AreOnPath among from es 0 t.saved.items) (sym gone.path)
-      (on-more among from s.path.items (event_at among at ∷ []) 0 t.saved.items (on-kept among from s t at on gone.saved));
+      (on-more among from s.path.items (event_tried among s.last at ∷ []) 0 t.saved.items (on-kept among from s t at on gone.saved));
 }
 
 pub on-stayed : (among : List Event) (from : Place) (s t : Search) (at : ℕ) → IsOnPath among from s → HasStayed among s at t → IsOnPath among from t

@@ -1,5 +1,5 @@
 -- What a search leaves out doesn't fail.
-use Rattle.std.proofs.Common.{◌≡◌, ℕ, ◌+◌, ◌<◌, ◌≤◌, List, [], ◌∷◌, ◌++◌, length, drop, refl, sym, ap, subst, ◌∙◌, arith, ◌⊎◌, inl, inr}
+use Rattle.std.proofs.Common.{◌≡◌, ℕ, ◌+◌, ◌<◌, ◌≤◌, List, [], ◌∷◌, ◌++◌, length, drop, sym, ap, subst, ◌∙◌, arith, ◌⊎◌, inl, inr}
 use Rattle.std.specs.Prelude.{true, false, All, Some, if◌then◌else◌}
 use Rattle.std.proofs.lemmas.Bool.{cases_lt, cases_Bool, false≢true}
 use Rattle.std.proofs.lemmas.List.{drop_all, drop-append-le}
@@ -9,10 +9,12 @@ use Rattle.brd_board.specs.Board.{BoardState}
 use Rattle.brd_explore.specs.declared.search.Search.{Search}
 use Rattle.brd_explore.specs.declared.search.Saved.{Saved}
 use Rattle.brd_explore.specs.declared.wanted.Wanted.{Wanted}
-use Rattle.brd_explore.specs.Schedules.{Place, does, is_left, next, place_after, event_at}
+use Rattle.brd_explore.specs.Schedules.{Place, does, is_left, next, place_after}
+use Rattle.brd_explore.specs.Ordering.{event_tried}
 use Rattle.brd_explore.specs.Failures.{fails_at}
 use Rattle.brd_explore.specs.Sleeping.{Spot, next_spot, is_left_out}
 use Rattle.brd_explore.specs.Searching.{FailsAt, NoneGoes, NoneGoesBy, NoneGoesFrom, IsTooMuch, place_of, spot_of, spot_of_saved, NoneHere, NoneLeftFrom, NoneLeft, HasGone, HasStayed, HasPassed, HasGoneBack, KeepsOr}
+use Rattle.brd_explore.proofs.OrderLemmas.{among-tried, tried-among}
 
 -- whichever way a test of an event goes
 pub does-or : (b : BoardState) (e : Event) → (does b e ≡ true) ⊎ (does b e ≡ false)
@@ -28,8 +30,8 @@ after-nothing p e es none = ap (λ test. if test then place_after (next p e) es 
 pub none-goes : (wanted : Wanted) (among : List Event) (spot : Spot) → NoneGoesFrom wanted among spot 0 → (FailsAt wanted spot.place → ⊥) → NoneGoes wanted among spot
 none-goes wanted among spot begins here [] to leads fails = here (subst (FailsAt wanted) (sym leads) fails)
 none-goes wanted among spot begins here (e ∷ es) to leads fails =
-    let one = leads.0 in
-    let none : NoneGoesBy wanted among spot e = subst (NoneGoesBy wanted among spot) one.is (begins one.at (omega arith) one.within) in
+    let one = among-tried among spot.place.last e leads.0 in
+    let none : NoneGoesBy wanted among spot e = subst (NoneGoesBy wanted among spot) one.is (begins one.at (omega arith) one.below) in
     none leads.2 leads.1 leads.3 es to leads.4 fails
 
 -- nothing is left for any of them
@@ -38,12 +40,12 @@ none-too_much wanted among spot from much k above below did left = absurd (false
 
 -- some are too much, one fails not, and then those behind it
 pub none-more : (wanted : Wanted) (among : List Event) (spot : Spot) (from at : ℕ) → from ≤ at → IsTooMuch among spot.place from at →
-    NoneGoesBy wanted among spot (event_at among at) → NoneGoesFrom wanted among spot (at + 1) → NoneGoesFrom wanted among spot from
+    NoneGoesBy wanted among spot (event_tried among spot.place.last at) → NoneGoesFrom wanted among spot (at + 1) → NoneGoesFrom wanted among spot from
 none-more wanted among spot from at on much here rest k above below = elim (cases_lt k at) [
   | inl lt ↦ λ did left. absurd (false≢true (sym (much k above lt) ∙ left))
   | inr ge ↦ elim (cases_lt at k) [
     | inl more ↦ rest k (omega (arith, more)) below
-    | inr less ↦ let same : at ≡ k = omega (arith, ge, less) in subst (λ n. NoneGoesBy wanted among spot (event_at among n)) same here
+    | inr less ↦ let same : at ≡ k = omega (arith, ge, less) in subst (λ n. NoneGoesBy wanted among spot (event_tried among spot.place.last n)) same here
   ]
 ]
 
@@ -76,12 +78,12 @@ kept-rest wanted among height s t at low (inr more) all =
     (subst (λ spot. NoneGoesFrom wanted among spot (at + 1)) same (subst (NoneGoesFrom wanted among (spot_of_saved more.0)) more.3 parts.1), parts.0)
 
 pub leaves-gone : (wanted : Wanted) (among : List Event) (height : ℕ) (s t : Search) (at : ℕ) → height ≤ length s.saved.items → s.at ≤ at → at < length among →
-    is_left (place_of s) (event_at among at) ≡ true → IsTooMuch among (place_of s) s.at at → HasGone among s at t → fails_at wanted t.board t.left ≡ false →
+    is_left (place_of s) (event_tried among s.last at) ≡ true → IsTooMuch among (place_of s) s.at at → HasGone among s at t → fails_at wanted t.board t.left ≡ false →
     NoneLeftFrom wanted among height t → NoneLeftFrom wanted among height s
 leaves-gone wanted among height s t at low on below left much gone fine none =
     let there : NoneGoes wanted among (spot_of t) = none-from wanted among t none.here gone.at fine in
-    let same : spot_of t ≡ next_spot (spot_of s) (event_at among at) = λ i. record { place = gone.place i; asleep = gone.asleep i } in
-    let begins : NoneGoesBy wanted among (spot_of s) (event_at among at) = λ did is tried. subst (NoneGoes wanted among) same there in
+    let same : spot_of t ≡ next_spot (spot_of s) (event_tried among s.last at) = λ i. record { place = gone.place i; asleep = gone.asleep i } in
+    let begins : NoneGoesBy wanted among (spot_of s) (event_tried among s.last at) = λ did is tried. subst (NoneGoes wanted among) same there in
     let kept = kept-rest wanted among height s t at low gone.saved none.saved in
     record {
       here = none-more wanted among (spot_of s) s.at at on much begins kept.0;
@@ -105,7 +107,7 @@ leaves-stayed wanted among height s t at on much stayed none = record {
 
 -- it has left an event out, which would have done something
 pub leaves-passed : (wanted : Wanted) (among : List Event) (height : ℕ) (s t : Search) (at : ℕ) → s.at ≤ at → at < length among →
-    is_left (place_of s) (event_at among at) ≡ true → IsTooMuch among (place_of s) s.at at → is_left_out wanted (spot_of s) (event_at among at) ≡ true →
+    is_left (place_of s) (event_tried among s.last at) ≡ true → IsTooMuch among (place_of s) s.at at → is_left_out wanted (spot_of s) (event_tried among s.last at) ≡ true →
     HasPassed s at t → NoneLeftFrom wanted among height t → NoneLeftFrom wanted among height s
 leaves-passed wanted among height s t at on below left much out passed none = record {
   here = none-more wanted among (spot_of s) s.at at on much (λ did is tried. absurd (false≢true (sym tried ∙ out)))
@@ -120,7 +122,7 @@ none-over wanted among s much = none-too_much wanted among (spot_of s) s.at much
 -- and so it is where no schedule fails
 pub none-known : (wanted : Wanted) (among : List Event) (s : Search) → NoneGoes wanted among (spot_of s) → NoneHere wanted among s
 none-known wanted among s none k above below did left tried es to leads fails =
-    none (event_at among k ∷ es) to (record { at = k; within = below; is = refl }, left, did, tried, leads) fails
+    none (event_tried among s.last k ∷ es) to (tried-among among s.last k below, left, did, tried, leads) fails
 
 -- all the saved places are below
 pub none-below : (wanted : Wanted) (among : List Event) (height : ℕ) (s : Search) → NoneHere wanted among s → length s.saved.items ≤ height →

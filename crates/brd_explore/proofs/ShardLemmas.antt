@@ -1,13 +1,11 @@
 -- The schedules of a shard, and the shards together.
-use Rattle.std.proofs.Common.{◌≡◌, ℕ, ◌+◌, ◌%◌, ◌<◌, ◌≤◌, List, [], ◌∷◌, ◌++◌, length, get_or, Vec, Global, refl, sym, ap, subst, ◌∙◌, arith, inl, inr}
+use Rattle.std.proofs.Common.{◌≡◌, ℕ, ◌+◌, ◌%◌, ◌<◌, ◌≤◌, List, [], ◌∷◌, ◌++◌, length, Vec, Global, refl, sym, ap, subst, ◌∙◌, arith, inl, inr}
 use Rattle.std.specs.Prelude.{Bool, true, false, not, ◌==◌, ◌&&◌, ◌||◌, All, Option, Some, None, option_map, if◌then◌else◌, Result, Ok, Err, IfOk}
 use Rattle.std.proofs.lemmas.Bool.{cases_lt, cases_Bool, and_parts, false≢true}
 use Rattle.std.proofs.lemmas.Bool.Decides.{nat_tests}
-use Rattle.std.proofs.lemmas.List.{get_or_default}
 use Rattle.std.proofs.lemmas.List.Elements.{All-nil, All-push, All-pop}
 use Rattle.std.proofs.Math.Nat.{mod-lt}
 use Rattle.brd_board.specs.declared.event.Event.{Event}
-use Rattle.brd_board.specs.declared.event.Event.TheVariants.{Tick}
 use Rattle.brd_board.specs.declared.event.Report.{Report}
 use Rattle.brd_board.specs.Board.{BoardState, Happened, happens}
 use Rattle.brd_journal.specs.Still.{did_nothing}
@@ -19,24 +17,22 @@ use Rattle.brd_explore.specs.declared.search.Saved.{Saved}
 use Rattle.brd_explore.specs.declared.search.Turn.{Turn}
 use Rattle.brd_explore.specs.declared.search.Turn.TheVariants as turn
 use Rattle.brd_explore.specs.declared.wanted.Wanted.{Wanted}
-use Rattle.brd_explore.specs.Schedules.{Place, does, is_left, next, event_at}
+use Rattle.brd_explore.specs.Schedules.{Place, does, is_left, next}
+use Rattle.brd_explore.specs.Ordering.{event_tried}
 use Rattle.brd_explore.specs.Failures.{fails_at}
-use Rattle.brd_explore.specs.Searching.{Answers, FailsAt, IsFound, NoneFails, NoneGoes, Leads, AreOnPath, IsOnPath, IsSame, IsSized, AreAlike, KeepsOr, HasGoneOr, HasStayed, HasPassed, HasGoneBack, LeavesOut, LeadsOn, Finds, HasLess, most_saved, most_turns, turns_left, ended_by, place_of, spot_of, spot_of_saved}
+use Rattle.brd_explore.specs.Searching.{Answers, Begins, FailsAt, IsFound, NoneFails, NoneGoes, Leads, AreOnPath, IsOnPath, IsSame, IsSized, AreAlike, KeepsOr, HasGoneOr, HasStayed, HasPassed, HasGoneBack, LeavesOut, LeadsOn, Finds, HasLess, most_saved, most_turns, turns_left, ended_by, place_of, spot_of, spot_of_saved}
 use Rattle.brd_explore.specs.Knowing.{Leaves}
 use Rattle.brd_explore.specs.Shards.{is_dealt, undealt, IsInShard, NoneFailsInShard, AnswersInShard}
 use Rattle.brd_explore.specs.Sharing.{AreOthers, BeginsHere, LeavesOutIn, NoneDealt, NoneDealtBy, NoneDealtFrom, NoneLeftIn, PathFails, SearchesAll, SearchesFrom, goes_in, is_choice, may_come}
 use Rattle.brd_explore.specs.Sleeping.{Spot, awake, is_left_out, next_spot}
 use Rattle.brd_explore.proofs.AwakeLemmas.{none-awake}
 use Rattle.brd_explore.proofs.EnoughLemmas.{all-lead}
-use Rattle.brd_explore.proofs.FindLemmas.{Begins, begins-on}
+use Rattle.brd_explore.proofs.FindLemmas.{begins-on}
 use Rattle.brd_explore.proofs.KnownLemmas.{leaves-same, leads-left, less-left, less-both}
+use Rattle.brd_explore.proofs.OrderLemmas.{among-tried}
 use Rattle.brd_explore.proofs.PathLemmas.{leads-after, leads-within}
 use Rattle.brd_explore.proofs.SearchLemmas.{none-from}
 use Rattle.brd_explore.proofs.SizeLemmas.{alike-back, pushed, sized-moved}
-
--- the code reads events at another default
-pub read-event : (among : List Event) (at : ℕ) (d : Event) → at < length among → get_or among at d ≡ event_at among at
-read-event among at d below = get_or_default among at d Tick below
 
 -- What isn't looked at.
 
@@ -55,16 +51,16 @@ none-other wanted deal among spot event none did left tried es to leads ours fai
 
 none-others : (wanted : Wanted) (deal : Deal) (among : List Event) (spot : Spot) (from : ℕ) → AreOthers deal among spot.place from (length among) →
     NoneDealtFrom wanted deal among spot from
-none-others wanted deal among spot from others k above below = none-other wanted deal among spot (event_at among k) (others k above below)
+none-others wanted deal among spot from others k above below = none-other wanted deal among spot (event_tried among spot.place.last k) (others k above below)
 
 -- some are others', one fails not, and then those behind it
 none-more : (wanted : Wanted) (deal : Deal) (among : List Event) (spot : Spot) (from at : ℕ) → from ≤ at → AreOthers deal among spot.place from at →
-    NoneDealtBy wanted deal among spot (event_at among at) → NoneDealtFrom wanted deal among spot (at + 1) → NoneDealtFrom wanted deal among spot from
+    NoneDealtBy wanted deal among spot (event_tried among spot.place.last at) → NoneDealtFrom wanted deal among spot (at + 1) → NoneDealtFrom wanted deal among spot from
 none-more wanted deal among spot from at on others here rest k above below = elim (cases_lt k at) [
-  | inl lt ↦ none-other wanted deal among spot (event_at among k) (others k above lt)
+  | inl lt ↦ none-other wanted deal among spot (event_tried among spot.place.last k) (others k above lt)
   | inr ge ↦ elim (cases_lt at k) [
     | inl more ↦ rest k (omega (arith, more)) below
-    | inr less ↦ let same : at ≡ k = omega (arith, ge, less) in subst (λ n. NoneDealtBy wanted deal among spot (event_at among n)) same here
+    | inr less ↦ let same : at ≡ k = omega (arith, ge, less) in subst (λ n. NoneDealtBy wanted deal among spot (event_tried among spot.place.last n)) same here
   ]
 ]
 
@@ -73,8 +69,8 @@ none-dealt : (wanted : Wanted) (deal : Deal) (among : List Event) (spot : Spot) 
     NoneDealt wanted deal among spot
 none-dealt wanted deal among spot begins here [] to leads ours fails = here (subst (FailsAt wanted) (sym leads) fails)
 none-dealt wanted deal among spot begins here (e ∷ es) to leads ours fails =
-    let one = leads.0 in
-    let none : NoneDealtBy wanted deal among spot e = subst (NoneDealtBy wanted deal among spot) one.is (begins one.at (omega arith) one.within) in
+    let one = among-tried among spot.place.last e leads.0 in
+    let none : NoneDealtBy wanted deal among spot e = subst (NoneDealtBy wanted deal among spot) one.is (begins one.at (omega arith) one.below) in
     none leads.2 leads.1 leads.3 es to leads.4 ours fails
 
 -- no schedule of the shard fails from a place that a search has just come to, and from where it has nothing left
@@ -104,7 +100,7 @@ kept-rest wanted deal among s t at (inr more) all =
 
 -- it has gone on to a place from where none of the schedules fails that begin with the event
 leaves-by : (wanted : Wanted) (deal : Deal) (among : List Event) (s t : Search) (at : ℕ) → s.at ≤ at → AreOthers deal among (place_of s) s.at at →
-    HasGoneOr (Others deal among s at) among s at t → NoneDealtBy wanted deal among (spot_of s) (event_at among at) →
+    HasGoneOr (Others deal among s at) among s at t → NoneDealtBy wanted deal among (spot_of s) (event_tried among s.last at) →
     All (IsFine wanted deal among) t.saved.items → NoneLeftIn wanted deal among s
 leaves-by wanted deal among s t at on others gone by all =
     let kept = kept-rest wanted deal among s t at gone.saved all in
@@ -113,11 +109,11 @@ leaves-by wanted deal among s t at on others gone by all =
       saved = kept.1;
     }
 
-gone-spot : (among : List Event) (s t : Search) (at : ℕ) {Else : Type 0} → HasGoneOr Else among s at t → spot_of t ≡ next_spot (spot_of s) (event_at among at)
+gone-spot : (among : List Event) (s t : Search) (at : ℕ) {Else : Type 0} → HasGoneOr Else among s at t → spot_of t ≡ next_spot (spot_of s) (event_tried among s.last at)
 gone-spot among s t at gone = λ i. record { place = gone.place i; asleep = gone.asleep i }
 
 dealt-next : (deal : Deal) (among : List Event) (s t : Search) (at : ℕ) (dealt : Bool) {Else : Type 0} → HasGoneOr Else among s at t →
-    dealt ≡ is_dealt deal.least t.left → is_dealt deal.least (next (place_of s) (event_at among at)).left ≡ dealt
+    dealt ≡ is_dealt deal.least t.left → is_dealt deal.least (next (place_of s) (event_tried among s.last at)).left ≡ dealt
 dealt-next deal among s t at dealt gone is = ap (λ (p : Place). is_dealt deal.least p.left) (sym gone.place) ∙ sym is
 
 -- nothing is dealt out there yet
@@ -125,7 +121,7 @@ pub leaves-gone : (wanted : Wanted) (deal : Deal) (among : List Event) (s t : Se
     HasGoneOr (Others deal among s at) among s at t → false ≡ is_dealt deal.least t.left → fails_at wanted t.board t.left ≡ false →
     NoneLeftIn wanted deal among t → NoneLeftIn wanted deal among s
 leaves-gone wanted deal among s t at on others gone dealt fine none =
-    let there : NoneDealt wanted deal among (next_spot (spot_of s) (event_at among at)) =
+    let there : NoneDealt wanted deal among (next_spot (spot_of s) (event_tried among s.last at)) =
     subst (NoneDealt wanted deal among) (gone-spot among s t at gone) (none-here wanted deal among t none.here gone.at fine) in
     leaves-by wanted deal among s t at on others gone
     (λ did left tried es to leads ours. there es to leads (ours.1 (dealt-next deal among s t at false gone dealt))) none.saved
@@ -154,7 +150,7 @@ leaves-stayed wanted deal among s t at on others stayed none = record {
 }
 
 pub leaves-passed : (wanted : Wanted) (deal : Deal) (among : List Event) (s t : Search) (at : ℕ) → s.at ≤ at → AreOthers deal among (place_of s) s.at at →
-    is_left_out wanted (spot_of s) (event_at among at) ≡ true → HasPassed s at t → NoneLeftIn wanted deal among t → NoneLeftIn wanted deal among s
+    is_left_out wanted (spot_of s) (event_tried among s.last at) ≡ true → HasPassed s at t → NoneLeftIn wanted deal among t → NoneLeftIn wanted deal among s
 leaves-passed wanted deal among s t at on others out passed none = record {
   here = none-more wanted deal among (spot_of s) s.at at on others (λ did left tried es to leads ours fails. false≢true (sym tried ∙ out))
       (from-stayed wanted deal among s t at passed.place passed.asleep passed.at none.here);

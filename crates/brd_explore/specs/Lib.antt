@@ -1,6 +1,7 @@
 pub mod Schedules
 pub mod Failures
 pub mod Sleeping
+pub mod Ordering
 pub mod Searching
 pub mod Knowing
 pub mod Shards

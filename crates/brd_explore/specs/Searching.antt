@@ -11,7 +11,8 @@ use Rattle.brd_explore.specs.declared.search.Turn.{Turn}
 use Rattle.brd_explore.specs.declared.search.Turn.TheVariants as turn
 use Rattle.brd_explore.specs.declared.search.Halt.{Halt}
 use Rattle.brd_explore.specs.declared.search.Halt.TheVariants as halt
-use Rattle.brd_explore.specs.Schedules.{Place, does, is_left, next, place_after, event_at, IsAmong, IsWithin}
+use Rattle.brd_explore.specs.Schedules.{Place, does, is_left, next, place_after, IsAmong, IsWithin}
+use Rattle.brd_explore.specs.Ordering.{event_tried}
 use Rattle.brd_explore.specs.Failures.{fails_at}
 use Rattle.brd_explore.specs.Sleeping.{Spot, next_spot, asleep_after, is_left_out}
 
@@ -56,14 +57,14 @@ NoneGoesBy wanted among spot event =
     does spot.place.board event ≡ true → is_left spot.place event ≡ true →
     is_left_out wanted spot event ≡ false → NoneGoes wanted among (next_spot spot event)
 
--- none that begins with one of the events from an index on
+-- none that begins with one of the events from a position on
 abbrev pub NoneGoesFrom : Wanted → List Event → Spot → ℕ → Type 0
 NoneGoesFrom wanted among spot from =
-    (k : ℕ) → from ≤ k → k < length among → NoneGoesBy wanted among spot (event_at among k)
+    (k : ℕ) → from ≤ k → k < length among → NoneGoesBy wanted among spot (event_tried among spot.place.last k)
 
--- nothing is left for the events of these indices
+-- nothing is left for the events at these positions
 abbrev pub IsTooMuch : List Event → Place → ℕ → ℕ → Type 0
-IsTooMuch among p from to = (k : ℕ) → from ≤ k → k < to → is_left p (event_at among k) ≡ false
+IsTooMuch among p from to = (k : ℕ) → from ≤ k → k < to → is_left p (event_tried among p.last k) ≡ false
 
 -- where a search is, and the places to which it goes back
 abbrev pub place_of : Search → Place
@@ -77,6 +78,15 @@ place_of_saved s = record { board = s.board; left = s.left; last = s.last }
 
 abbrev pub spot_of_saved : Saved → Spot
 spot_of_saved s = record { place = place_of_saved s; asleep = s.asleep }
+
+-- a search begins at a place
+pub record Begins (from : Place) (s : Search) : Type 0 where
+  pub place : place_of s ≡ from
+  pub at : s.at ≡ 0
+  pub fresh : s.fresh ≡ true
+  pub path : s.path.items ≡ []
+  pub saved : s.saved.items ≡ []
+  pub awake : s.asleep ≡ None
 
 -- what a search hasn't looked at yet from where it is doesn't fail
 abbrev pub NoneHere : Wanted → List Event → Search → Type 0
@@ -118,7 +128,7 @@ pub record IsSized (s : Search) : Type 0 where
 
 -- What a turn of a search has done.
 
--- The events of later indices are still to be tried at a place that was saved, or something is so of them.
+-- The events at later positions are still to be tried at a place that was saved, or something is so of them.
 abbrev pub KeepsOr : Type 0 → Search → ℕ → Search → Type 0
 KeepsOr Else s at t =
     ((t.saved.items ≡ s.saved.items) × Else)
@@ -127,17 +137,17 @@ KeepsOr Else s at t =
 
 -- it has gone on by an event that did something
 pub record HasGoneOr (Else : Type 0) (among : List Event) (s : Search) (n : ℕ) (t : Search) : Type 0 where
-  pub did : does s.board (event_at among n) ≡ true
-  pub place : place_of t ≡ next (place_of s) (event_at among n)
-  pub asleep : t.asleep ≡ asleep_after s.board s.asleep (event_at among n)
+  pub did : does s.board (event_tried among s.last n) ≡ true
+  pub place : place_of t ≡ next (place_of s) (event_tried among s.last n)
+  pub asleep : t.asleep ≡ asleep_after s.board s.asleep (event_tried among s.last n)
   pub at : t.at ≡ 0
   pub fresh : t.fresh ≡ true
-  pub path : t.path.items ≡ s.path.items ++ event_at among n ∷ []
+  pub path : t.path.items ≡ s.path.items ++ event_tried among s.last n ∷ []
   pub saved : KeepsOr Else s n t
 
 -- it has stayed, since the event did nothing
 pub record HasStayed (among : List Event) (s : Search) (n : ℕ) (t : Search) : Type 0 where
-  pub did : does s.board (event_at among n) ≡ false
+  pub did : does s.board (event_tried among s.last n) ≡ false
   pub place : place_of t ≡ place_of s
   pub asleep : t.asleep ≡ s.asleep
   pub at : t.at ≡ n + 1
@@ -158,7 +168,7 @@ abbrev pub TriesOr : Type 0 → List Event → Search → ℕ → Search → Boo
 TriesOr Else among s at t true = HasGoneOr Else among s at t
 TriesOr Else among s at t false = HasStayed among s at t
 
--- nothing is left for the events of later indices, if the place wasn't saved
+-- nothing is left for the events at later positions, if the place wasn't saved
 abbrev pub HasGone : List Event → Search → ℕ → Search → Type 0
 HasGone among s at t = HasGoneOr (IsTooMuch among (place_of s) (at + 1) (length among)) among s at t
 

@@ -8,7 +8,8 @@ use Rattle.brd_explore.specs.declared.search.Turn.{Turn}
 use Rattle.brd_explore.specs.declared.search.Turn.TheVariants as turn
 use Rattle.brd_explore.specs.declared.shard.Deal.{Deal}
 use Rattle.brd_explore.specs.declared.wanted.Wanted.{Wanted}
-use Rattle.brd_explore.specs.Schedules.{Place, does, is_left, next, event_at}
+use Rattle.brd_explore.specs.Schedules.{Place, does, is_left, next}
+use Rattle.brd_explore.specs.Ordering.{event_tried}
 use Rattle.brd_explore.specs.Searching.{FailsAt, IsFound, IsOnPath, IsSame, LeadsAwake, NoneGoes, TriesOr}
 use Rattle.brd_explore.specs.Searching.{place_of, spot_of, spot_of_saved}
 use Rattle.brd_explore.specs.Shards.{is_dealt, IsInShard}
@@ -26,9 +27,9 @@ goes_in deal left = not (is_dealt deal.least left) || left.events % deal.shard.o
 abbrev pub is_choice : Deal → Place → Event → Bool
 is_choice deal p event = is_left p event && goes_in deal (next p event).left
 
--- the events of these indices are none to choose
+-- the events at these positions are none to choose
 abbrev pub AreOthers : Deal → List Event → Place → ℕ → ℕ → Type 0
-AreOthers deal among p from to = (k : ℕ) → from ≤ k → k < to → is_choice deal p (event_at among k) ≡ false
+AreOthers deal among p from to = (k : ℕ) → from ≤ k → k < to → is_choice deal p (event_tried among p.last k) ≡ false
 
 -- no schedule of the shard from a spot fails on which nothing is left out
 abbrev pub NoneDealt : Wanted → Deal → List Event → Spot → Type 0
@@ -44,10 +45,10 @@ NoneDealtBy wanted deal among spot event =
     LeadsAwake wanted among (next_spot spot event) events to →
     IsInShard deal.shard deal.least spot.place (event ∷ events) → FailsAt wanted to → ⊥
 
--- none that begins with one of the events from an index on
+-- none that begins with one of the events from a position on
 abbrev pub NoneDealtFrom : Wanted → Deal → List Event → Spot → ℕ → Type 0
 NoneDealtFrom wanted deal among spot from =
-    (k : ℕ) → from ≤ k → k < length among → NoneDealtBy wanted deal among spot (event_at among k)
+    (k : ℕ) → from ≤ k → k < length among → NoneDealtBy wanted deal among spot (event_tried among spot.place.last k)
 
 -- What a search hasn't looked at yet doesn't fail: neither from where it is nor from the places that it goes back to.
 pub record NoneLeftIn (wanted : Wanted) (deal : Deal) (among : List Event) (s : Search) : Type 0 where

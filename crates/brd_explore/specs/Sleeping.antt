@@ -1,4 +1,4 @@
--- Which steps a search leaves out. (Contracts of private functions alone name this.)
+-- Which steps a search leaves out.
 --
 -- A processor falls asleep by an instruction that touches nothing but registers. It sleeps while other processors
 -- execute one instruction after the other, and leave that instruction's word as it was: all of these could as well come

@@ -6,6 +6,7 @@ mod bounds;
 mod condition;
 mod known;
 pub mod laws;
+mod order;
 mod search;
 mod shard;
 mod shrinking;

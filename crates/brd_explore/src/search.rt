@@ -4,13 +4,15 @@ ghost use Rattle.std.specs.Prelude.{option_map, ◌≡◌, ◌&&◌, take, ◌�
 ghost use Rattle.std.specs.Prelude.{List as ListOf, IfErr, IfOk, OnOk, IfSome, IfNone, All, Some, None};
 ghost use Rattle.brd_board.specs.declared.event.Event.{Event as EventOf};
 ghost use Rattle.brd_board.specs.Board.{happens};
-ghost use Rattle.brd_explore.specs.Schedules.{does, Place, is_left, next, event_at, IsWithin, IsAmong, start};
+ghost use Rattle.brd_explore.specs.Schedules.{does, Place, is_left, next, IsWithin, IsAmong, start};
+ghost use Rattle.brd_explore.specs.Ordering.{event_tried};
 ghost use Rattle.brd_explore.specs.Sleeping.{is_left_out};
 ghost use Rattle.brd_explore.specs.declared.search.Search.{Search as SearchOf};
 ghost use Rattle.brd_explore.specs.declared.wanted.Wanted.{Wanted as WantedOf};
 ghost use Rattle.brd_explore.specs.Knowing.{Knows, KnowsOn, AreDone, AreOver, ArePending, Leaves};
 ghost use Rattle.brd_explore.specs.Searching.{
   AreAlike,
+  Begins,
   Fails,
   HaltsSo,
   IsOnPath,
@@ -38,6 +40,7 @@ ghost use Rattle.brd_explore.specs.Searching.{
 use crate::asleep::{Asleep, executes, happen, sleeps};
 use crate::bounds::{Bounds, did_nothing, is_last, stepper};
 use crate::known::{Known, may_have_more};
+use crate::order::event_tried;
 use crate::wanted::{Wanted, is_end};
 use brd_base::NoMemory;
 use brd_board::{Board, Event};
@@ -51,7 +54,7 @@ pub struct Saved {
     last: Option<u8>,
     /// Who sleeps there.
     asleep: Option<Asleep>,
-    /// The index of the first event that is still to be tried there.
+    /// The position of the first event that is still to be tried there.
     at: usize,
     /// How many events lead there.
     len: usize,
@@ -64,7 +67,7 @@ pub struct Search {
     pub(crate) last: Option<u8>,
     /// Who sleeps here: whose next step is left out.
     pub(crate) asleep: Option<Asleep>,
-    /// The index of the first event that is still to be tried here.
+    /// The position of the first event that is still to be tried here.
     pub(crate) at: usize,
     /// Whether no event that was tried here has done anything, and none was left out.
     pub(crate) fresh: bool,
@@ -137,15 +140,17 @@ impl Saved {
 }
 
 impl Search {
-    /// The index of the first event, from this one on, for which something is left here.
+    /// The position of the first event, from this one on, for which something is left here.
     fn choice(&self, among: &[Event], from: usize) -> Option<usize>
         ensures some { IfSome result
-            (λ at. (from ≤ at) × (at < length among.now) × (is_left (place_of self.now) (event_at among.now at) ≡ true)
+            (λ at. (from ≤ at) × (at < length among.now)
+            × (is_left (place_of self.now) (event_tried among.now self.now.last at) ≡ true)
             × IsTooMuch among.now (place_of self.now) from at) }
         ensures none { IfNone result (IsTooMuch among.now (place_of self.now) from (length among.now)) }
     {
         for at in from..among.len() {
-            if self.left.affords(self.last, among[at]) {
+            let event = event_tried(among, self.last, at);
+            if self.left.affords(self.last, event) {
                 return Some(at);
             }
         }
@@ -166,7 +171,7 @@ impl Search {
         Ok(board)
     }
 
-    /// A copy of this place, where the events from an index on are still to be tried.
+    /// A copy of this place, where the events from a position on are still to be tried.
     fn saved(&mut self, at: usize) -> Result<Saved, NoMemory>
         requires { IsSized self.old }
         ensures saved { IfOk result
@@ -215,7 +220,7 @@ impl Search {
         ensures is { IfOk result (λ done. TriesOr (Unit {0}) among.now self.old at self.new done) }
         ensures sized { IsSized self.new }
     {
-        let done = self.take(among[at])?;
+        let done = self.take(event_tried(among, self.last, at))?;
         if !done {
             self.at = at + 1;
         }
@@ -242,7 +247,7 @@ impl Search {
         ensures is { IfOk result (λ done. TriesOr ⊥ among.now self.old at self.new done) }
         ensures sized { IsSized self.new }
     {
-        let done = self.take(among[at])?;
+        let done = self.take(event_tried(among, self.last, at))?;
         if done {
             self.saved.push(saved)?;
         } else {
@@ -275,7 +280,7 @@ impl Search {
         requires sized { IsSized self.old }
         requires known { Knows wanted.now among.now self.old known.old }
         requires within { (self.old.at ≤ at) × (at < length among.now) }
-        requires left { is_left (place_of self.old) (event_at among.now at) ≡ true }
+        requires left { is_left (place_of self.old) (event_tried among.now self.old.last at) ≡ true }
         requires before { IsTooMuch among.now (place_of self.old) self.old.at at }
         ensures out { IfOk result (LeavesOut wanted.now among.now self.old self.new) }
         ensures on { (from : Place) → IsOnPath among.now from self.old
@@ -304,9 +309,9 @@ impl Search {
     #[tactic(auto, unfolding(crate::specs::Sleeping::is_left_out))]
     pub(crate) fn is_left_out(&self, among: &[Event], at: usize, wanted: &Wanted) -> bool
         requires { at < length among.now }
-        ensures { result ≡ is_left_out wanted.now (spot_of self.now) (event_at among.now at) }
+        ensures { result ≡ is_left_out wanted.now (spot_of self.now) (event_tried among.now self.now.last at) }
     {
-        match among[at] {
+        match event_tried(among, self.last, at) {
             Event::Step(cpu) => {
                 sleeps(self.asleep, cpu)
                     && !is_last(self.last, cpu)
@@ -467,9 +472,7 @@ impl Search {
 
     /// A search that begins at a board.
     pub(crate) fn new(alloc: Global, board: &Board, bounds: Bounds) -> Result<Search, NoMemory>
-        ensures place { IfOk result (λ s. place_of s ≡ start board.now bounds) }
-        ensures begins { IfOk result (λ s. (s.at ≡ 0) × (s.fresh ≡ true) × (s.path.items ≡ []) × (s.saved.items ≡ [])
-            × (s.asleep ≡ None)) }
+        ensures begins { IfOk result (Begins (start board.now bounds)) }
         ensures sized { IfOk result IsSized }
     {
         let board = board.try_copy()?;
@@ -487,12 +490,13 @@ impl Search {
         })
     }
 
-    /// Its path.
-    pub(crate) fn into_path(self) -> Vec<Event>
-        ensures { result ≡ self.path }
+    /// Its path, and its board.
+    pub(crate) fn into_parts(self) -> (Vec<Event>, Board)
+        ensures path { result.0 ≡ self.path }
+        ensures board { result.1 ≡ self.board }
     {
         let Search {
-            board: _,
+            board,
             left: _,
             last: _,
             asleep: _,
@@ -503,26 +507,7 @@ impl Search {
             spare: _,
             counts: _,
         } = self;
-        path
-    }
-
-    /// Its board.
-    pub(crate) fn into_board(self) -> Board
-        ensures { result ≡ self.board }
-    {
-        let Search {
-            board,
-            left: _,
-            last: _,
-            asleep: _,
-            at: _,
-            fresh: _,
-            path: _,
-            saved: _,
-            spare: _,
-            counts: _,
-        } = self;
-        board
+        (path, board)
     }
 
     /// What it came to, and how many schedules it has tried.
@@ -530,7 +515,8 @@ impl Search {
         ensures { Finds self found (option_map (λ events. events.items) result.schedule) }
     {
         let counts = self.counts;
-        let schedule = if found { Some(self.into_path()) } else { None };
+        let (path, _) = self.into_parts();
+        let schedule = if found { Some(path) } else { None };
         Found { schedule, counts }
     }
 }

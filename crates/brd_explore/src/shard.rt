@@ -1,7 +1,9 @@
 //! A search that several machines share: the schedules are dealt out to them by the second choice that costs.
 
+ghost use Rattle.std.specs.List.{list_any};
 ghost use Rattle.std.specs.Prelude.{option_map, ◌≡◌, ◌≤◌, ◌<◌, ℕ, true, false, length, IfErr, IfOk, IfSome, IfNone};
-ghost use Rattle.brd_explore.specs.Schedules.{Place, event_at, start};
+ghost use Rattle.brd_explore.specs.Ordering.{event_tried};
+ghost use Rattle.brd_explore.specs.Schedules.{Place, start};
 ghost use Rattle.brd_explore.specs.Knowing.{AreDone, KnowsIn, Leaves};
 ghost use Rattle.brd_explore.specs.Searching.{
   HaltsSo,
@@ -30,6 +32,7 @@ ghost use Rattle.brd_explore.specs.Sharing.{
 
 use crate::bounds::{Bounds, did_nothing};
 use crate::known::{Known, may_have_more};
+use crate::order::event_tried;
 use crate::search::{Counts, Found, Halt, Search, Turn, Watch, find};
 use crate::wanted::Wanted;
 use brd_base::NoMemory;
@@ -189,7 +192,7 @@ impl Search {
         requires sized { IsSized self.old }
         requires known { AreDone wanted.now among.now known.old }
         requires within { (self.old.at ≤ at) × (at < length among.now) }
-        requires choice { is_choice deal (place_of self.old) (event_at among.now at) ≡ true }
+        requires choice { is_choice deal (place_of self.old) (event_tried among.now self.old.last at) ≡ true }
         requires before { AreOthers deal among.now (place_of self.old) self.old.at at }
         ensures out { IfOk result (LeavesOutIn wanted.now deal among.now self.old self.new) }
         ensures on { (from : Place) → IsOnPath among.now from self.old
@@ -216,17 +219,17 @@ impl Search {
         Ok(self.turn_from())
     }
 
-    /// The index of the first event, from this one on, that may be chosen here.
+    /// The position of the first event, from this one on, that may be chosen here.
     fn choice_in_shard(&self, among: &[Event], from: usize, deal: Deal) -> Option<usize>
         requires { 0 < deal.shard.of }
         ensures some { IfSome result
             (λ at. (from ≤ at) × (at < length among.now)
-            × (is_choice deal (place_of self.now) (event_at among.now at) ≡ true)
+            × (is_choice deal (place_of self.now) (event_tried among.now self.now.last at) ≡ true)
             × AreOthers deal among.now (place_of self.now) from at) }
         ensures none { IfNone result (AreOthers deal among.now (place_of self.now) from (length among.now)) }
     {
         for at in from..among.len() {
-            if self.is_choice(among[at], deal) {
+            if self.is_choice(event_tried(among, self.last, at), deal) {
                 return Some(at);
             }
         }
@@ -274,10 +277,11 @@ impl Search {
         let mut branch = self.branch()?;
         let found = branch.fails(among, wanted, known, watch)?;
         self.counts = branch.counts;
+        let (path, board) = branch.into_parts();
         if found {
-            self.path = branch.into_path();
+            self.path = path;
         } else {
-            self.keep(branch.into_board());
+            self.keep(board);
         }
         Ok(found)
     }
@@ -369,11 +373,10 @@ impl Search {
 
     /// Whether one of some events may come here.
     fn some_come(&self, among: &[Event]) -> Result<bool, NoMemory>
-        ensures none { IfOk result (λ some. some ≡ false → (k : ℕ) → k < length among.now →
-            may_come (place_of self.now) (event_at among.now k) ≡ false) }
+        ensures { IfOk result (λ some. some ≡ list_any (may_come (place_of self.now)) among.now) }
     {
-        for at in 0..among.len() {
-            if self.comes(among[at])? {
+        for event in among {
+            if self.comes(*event)? {
                 return Ok(true);
             }
         }

@@ -16,12 +16,4 @@ pub returns-clause-is : goal.returns-clause-is
 returns-clause-is g c =
     finds c.args.wanted.now c.args.among.now (start c.args.board.now c.args.bounds) c.in_ok-search.search c.run.new.self c.in_ok-found.found
     (option_map (λ (v : Vec Event Global). v.items) c.into_found.result.schedule)
-    (record {
-      place = c.in_ok-search.ensures.place;
-      at = c.in_ok-search.ensures.begins.0;
-      fresh = c.in_ok-search.ensures.begins.1;
-      path = c.in_ok-search.ensures.begins.2;
-      saved = c.in_ok-search.ensures.begins.3;
-      awake = c.in_ok-search.ensures.begins.4;
-    })
-    (sym c.in_ok-fails_at.ensures ∙ c.if-branch.false) c.in_ok-found.ensures.out c.in_ok-found.ensures.on c.into_found.ensures
+    c.in_ok-search.ensures.begins (sym c.in_ok-fails_at.ensures ∙ c.if-branch.false) c.in_ok-found.ensures.out c.in_ok-found.ensures.on c.into_found.ensures

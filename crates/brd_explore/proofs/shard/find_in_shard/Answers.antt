@@ -17,13 +17,5 @@ returns-clause-is g c =
     subst (λ shard. AnswersInShard c.args.wanted.now shard c.args.among.now from found) c.new-deal.ensures.shard
     (finds-in-shard c.args.wanted.now c.new-deal.result c.args.among.now from c.in_ok-search.search c.run_in_shard.new.self
     c.in_ok-found.found found
-    (record {
-      place = c.in_ok-search.ensures.place;
-      at = c.in_ok-search.ensures.begins.0;
-      fresh = c.in_ok-search.ensures.begins.1;
-      path = c.in_ok-search.ensures.begins.2;
-      saved = c.in_ok-search.ensures.begins.3;
-      awake = c.in_ok-search.ensures.begins.4;
-    })
-    (sym c.in_ok-fails_at.ensures ∙ c.if-branch.false) c.new-deal.ensures.least c.in_ok-found.ensures.out c.in_ok-found.ensures.on
+    c.in_ok-search.ensures.begins (sym c.in_ok-fails_at.ensures ∙ c.if-branch.false) c.new-deal.ensures.least c.in_ok-found.ensures.out c.in_ok-found.ensures.on
     c.into_found.ensures)
