@@ -2,4 +2,3 @@ pub mod HeldLemmas
 pub mod NoneLemmas
 pub mod PathLemmas
 pub mod WalkLemmas
-pub mod SomeLemmas

@@ -1,7 +1,7 @@
 use Rattle.std.proofs.Common.{sym, ◌∙◌, arith}
 use Rattle.brd_board.specs.Board.{registers_of}
 use Rattle.brd_only.specs.Only.{is_inside}
-use Rattle.brd_only.proofs.SomeLemmas.{some-none, some-more, some-found}
+use Rattle.brd_explore.proofs.FailureLemmas.{some-none, some-more, some-found}
 use Rattle.brd_only.proofs.region.some_are_inside.Goals as goal
 
 pub loop-cpu-init : goal.loop-cpu-init
