@@ -1,6 +1,6 @@
 -- Searches by the schedules that keep to regions, and by those that need not.
 use Rattle.std.proofs.Common.{◌≡◌, ℕ, List, [], ◌∷◌, length, refl, sym, ap, subst, Vec, Global}
-use Rattle.std.specs.Prelude.{◌==◌, ◌||◌, Bool, true, option_map, Option, Some, None, Result, Ok, Err, IfOk}
+use Rattle.std.specs.Prelude.{◌==◌, ◌||◌, true, option_map, Option, Some, None, Result, Ok, Err, IfOk}
 use Rattle.std.proofs.lemmas.Bool.{and_parts}
 use Rattle.brd_board.specs.declared.event.Event.{Event}
 use Rattle.brd_board.specs.declared.event.Event.TheVariants.{Step, Tick, Raise}
