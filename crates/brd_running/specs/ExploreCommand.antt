@@ -1,10 +1,11 @@
 -- The command `explore`: what it writes for what it reads, which journal it saves, and how it ends.
-use Rattle.std.specs.Prelude.{◌≡◌, ◌⊎◌, ℕ, ◌<◌, true, false, List, ◌++◌, codes, Option, None, Some, IfSome, Result}
+use Rattle.std.specs.Prelude.{◌≡◌, ◌⊎◌, ℕ, ◌<◌, true, false, List, ◌++◌, map, codes, Option, None, Some, IfSome, Result}
 use Rattle.std.specs.Prelude.{Ok, Err}
 use Rattle.std.specs.declared.io.Error.{Error}
 use Rattle.brd_board.specs.declared.event.Event.{Event}
 use Rattle.brd_board.specs.Board.{BoardState, after}
 use Rattle.brd_explore.specs.declared.bounds.Bounds.{Bounds}
+use Rattle.brd_explore.specs.declared.wanted.Ending.{Ending}
 use Rattle.brd_image.specs.declared.building.Loaded.{Loaded}
 use Rattle.brd_inputs.specs.Opening.{OpensPair}
 use Rattle.brd_inputs.specs.Start.{IsLoaded, KeepsFromLoading}
@@ -14,8 +15,10 @@ use Rattle.brd_inputs.specs.declared.inputs.Pair.{Pair}
 use Rattle.brd_inputs.specs.declared.schedule_fault.ScheduleFault.TheVariants.{TooLong}
 use Rattle.brd_journal.specs.Text.{text_of}
 use Rattle.brd_places.specs.declared.left.Left.{Left}
-use Rattle.brd_reach.specs.Endless.{NeverEnds, rest_of}
+use Rattle.brd_reach.specs.Endless.{AreAll, NeverEnds, rest_of}
 use Rattle.brd_reach.specs.Reaching.{ReachedSo}
+use Rattle.brd_reach.specs.declared.held.Final.{Final}
+use Rattle.brd_reach.specs.declared.held.Held.{Held}
 use Rattle.brd_reach.specs.declared.searching.Reached.{Reached}
 use Rattle.brd_reach.specs.declared.searching.Reached.TheVariants as reached
 use Rattle.brd_reach.specs.declared.unknown.Unknown.{Unknown}
@@ -71,17 +74,26 @@ pub record TellsHung (plan : Plan) (b : BoardState) (events : List Event) (text 
   pub tells : Begins (codes "fails ") text
   pub saves : journal ≡ Some (text_of b.memory.order events)
 
--- What is told where none fails: that, and no journal; or events, if it is looked for, that lead to a board from which
--- none comes to an end.
-abbrev pub TellsHeld : Plan → BoardState → List ℕ → Option (List ℕ) → Type 0
-TellsHeld plan b text journal =
-    (Begins (codes "none ") text × (journal ≡ None))
+-- what the console and the words are at some ends
+abbrev pub endings_of : List Final → List Ending
+endings_of finals = map (λ (one : Final). one.ending) finals
+
+-- No schedule comes to another end than these, by the console and the words that are asked for.
+abbrev pub AreAllEnds : Plan → BoardState → List Final → Type 0
+AreAllEnds plan b finals = AreAll plan.values (endings_of finals) b (left_by plan.bounds) plan.among
+
+-- What is told where none fails: that, and no journal; if the ends are asked for and there aren't too many to be listed,
+-- these are all. Or events, if it is looked for, that lead to a board from which none comes to an end.
+abbrev pub TellsHeld : Plan → BoardState → Held → List ℕ → Option (List ℕ) → Type 0
+TellsHeld plan b held text journal =
+    (Begins (codes "none ") text × (journal ≡ None)
+    × (plan.finals ≡ true → held.more ≡ false → AreAllEnds plan b held.finals))
     ⊎ ((plan.livelock ≡ true) × (events : List Event) × TellsHung plan b events text journal)
 
 -- What is told of a search for which events and preemptions have no bound: that none fails; or that a schedule fails,
 -- and its journal.
 abbrev pub TellsAll : Plan → BoardState → Reached → List ℕ → Option (List ℕ) → Type 0
-TellsAll plan b (reached.Holds held) text journal = TellsHeld plan b text journal
+TellsAll plan b (reached.Holds held) text journal = TellsHeld plan b held text journal
 TellsAll plan b (reached.Fails events) text journal = Tells plan b (Some events) text journal
 TellsAll plan b (reached.Unknown why) text journal = ⊥
 

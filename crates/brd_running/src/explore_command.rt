@@ -7,7 +7,7 @@ ghost use Rattle.brd_running.specs.ExploreCommand.{Begins, KeepsFromExploring, T
 ghost use Rattle.brd_running.specs.ExploreCommand.{lazy_fault_of, no_answer_of};
 ghost use Rattle.brd_search.specs.Searches.{Answers, IsFewest, IsShortest, StopsSo};
 ghost use Rattle.brd_running.specs.ExploreCommand.{IsReached, IsUnknown, IsUntoldOfAll, left_by};
-ghost use Rattle.brd_running.specs.ExploreCommand.{IsHopeless, TellsHeld, TellsHung};
+ghost use Rattle.brd_running.specs.ExploreCommand.{AreAllEnds, IsHopeless, TellsHeld, TellsHung, endings_of};
 ghost use Rattle.brd_running.specs.Saving.{IsOfJournal};
 ghost use Rattle.brd_search.specs.Shown.{shown};
 ghost use Rattle.brd_board.specs.Board.{BoardState};
@@ -249,7 +249,7 @@ fn told_held(
     held: Held,
 ) -> Result<Told, CommandFault>
     ensures { MatchResult result
-        (λ told. TellsHeld plan.now board.now told.text.items (option_map (λ text. text.items) told.journal))
+        (λ told. TellsHeld plan.now board.now held told.text.items (option_map (λ text. text.items) told.journal))
         IsUntoldOfAll }
 {
     let Held {
@@ -287,7 +287,7 @@ fn finals_text(
     finals: &[Final],
     more: bool,
 ) -> Result<Vec<u8>, CommandFault>
-    ensures { IfErr result IsUntoldOfAll }
+    ensures { MatchResult result (λ text. more ≡ false → AreAllEnds plan.now board.now finals.now) IsUntoldOfAll }
 {
     if !more && !are_all(alloc, board, plan, finals)? {
         return Err(CommandFault::Search(SearchFault::Unlearned));
@@ -296,7 +296,9 @@ fn finals_text(
 }
 
 /// Whether it is found that these are all ends, by the console and the words that are asked for.
-fn are_all(alloc: Global, board: &Board, plan: &Plan, finals: &[Final]) -> Result<bool, NoMemory> {
+fn are_all(alloc: Global, board: &Board, plan: &Plan, finals: &[Final]) -> Result<bool, NoMemory>
+    ensures { IfOk result (λ all. all ≡ true → AreAllEnds plan.now board.now finals.now) }
+{
     let endings = endings_of(alloc, finals)?;
     let words = List::from_slice(alloc, plan.values.as_slice())?;
     show_all(
@@ -310,8 +312,10 @@ fn are_all(alloc: Global, board: &Board, plan: &Plan, finals: &[Final]) -> Resul
     )
 }
 
-/// What the ends are.
-fn endings_of(alloc: Global, finals: &[Final]) -> Result<List<Ending>, NoMemory> {
+/// What the console and the words are at some ends.
+fn endings_of(alloc: Global, finals: &[Final]) -> Result<List<Ending>, NoMemory>
+    ensures { IfOk result (λ endings. endings ≡ endings_of finals.now) }
+{
     let mut endings = List::new(alloc);
     for each in finals {
         endings.push(each.ending.try_copy(alloc)?)?;
