@@ -238,7 +238,7 @@ class Search:
         """The events that may come and aren't left out, with the place after each, but for who falls asleep or wakes by
         it. There are none where the schedule fails, or nothing more may come."""
         fault = board.fault_at(self.wanted, place.left)
-        ways = [] if fault else [(event, after) for event in self.among if board.does(event)
+        ways = [] if fault else [(event, after) for event in self.tried_at(place) if board.does(event)
                                  for after in [place_after(board, place, event)] if min(after.left) >= 0]
         if fault:
             self.found = listed(place.path), fault
@@ -249,6 +249,13 @@ class Search:
             else:
                 self.cut[board.cut_by(place.left)] += 1
         return [way for way in ways if not self.is_left_out(place, way[0]) and not self.is_others(place, way[1])]
+
+    def tried_at(self, place):
+        """The events in their order: those behind the step of the processor that has stepped last, those before it, and
+        that step, which alone costs nothing."""
+        own = "S", place.last
+        first = self.among.index(own) + 1 if place.last else 0
+        return self.among[first:] + self.among[:first]
 
     def is_left_out(self, place, event):
         number = place.asleep and place.asleep.processor
