@@ -86,8 +86,8 @@ looked for: 1 + 2 != 3, 4294967295 + 1 <= 0
         looks: LOST,
         told: "after 20 events: the word at 80000000 is 1, not 2
        0  processor 1 goes on at 80000010
-       4  processor 1 stops before sw $t0, 0($s0) at 80000020; processor 2 goes on at 80000010
-      14  processor 1 goes on at 80000020
+       3  processor 1 stops before addiu $t0, $t0, 1 at 8000001c; processor 2 goes on at 80000010
+      13  processor 1 goes on at 8000001c
 ",
     },
     Case {
@@ -121,8 +121,8 @@ looked for: 80000000 that isn't 2 at the end
         looks: DEAD,
         told: "after 12 events: a deadlock: nobody goes on, and a task waits
        0  processor 1 goes on at 80000000
-       5  processor 1 stops before syscall at 80000014; processor 2 goes on at 80000020
-      11  processor 1 goes on at 80000014
+       3  processor 1 stops before addiu $a0, $zero, 2 at 8000000c; processor 2 goes on at 80000020
+       9  processor 1 goes on at 8000000c
 ",
     },
 ];
