@@ -236,17 +236,26 @@ wrong=$(is_lazily_none "$(bounds --events 20000 --preemptions 0)" $?)
 explores "${wide[@]}" --memory 1
 verdict "explore: more places than fit into a MiB" \
     "$wrong$(grep -q '^none of 2 schedules fails: ' "$work/out" || head -c 300 "$work/out")"
-# Places take no more memory than is said: without a bound these would be above 100 MiB. (Python itself takes less.)
-sed 's/1500/30000/' "$work/stores.s" > "$work/many.s"
-"$board" asm "$work/many.s" "$work/many"
-what="explore: no more memory than --memory says"
-if have python3 "$what"; then
+# takes NAME ARGUMENT..: a search takes 24 MiB at most. (Python itself takes less.)
+takes() {
+    local name=$1 taken
+    shift
+    have python3 "$name" || return 0
     taken=$(python3 -c 'import resource, subprocess, sys
 subprocess.run(sys.argv[1:], stdout=subprocess.DEVNULL, stderr=subprocess.DEVNULL)
-print(resource.getrusage(resource.RUSAGE_CHILDREN).ru_maxrss)' "$board" explore "$work/many" $examples/lost_update.cfg \
-        --exception --events 400000 --preemptions 0 --memory 16 --threads 1)
-    verdict "$what" "$([ "$taken" -le $((24 * 1024)) ] || echo "$taken KiB")"
-fi
+print(resource.getrusage(resource.RUSAGE_CHILDREN).ru_maxrss)' "$board" explore "$@" --exception --threads 1)
+    verdict "$name" "$([ "$taken" -le $((24 * 1024)) ] || echo "$taken KiB")"
+}
+
+# Places take no more memory than is said: without a bound these would be above 100 MiB.
+sed 's/1500/30000/' "$work/stores.s" > "$work/many.s"
+"$board" asm "$work/many.s" "$work/many"
+takes "explore: no more memory than --memory says" "$work/many" $examples/lost_update.cfg \
+    --events 400000 --preemptions 0 --memory 16
+# One by one there is a board for each choice of a schedule; one for each event would be above 100 MiB, too.
+takes "explore: a few boards one by one" "$work/many" $examples/lost_update.cfg --events 1000 --memory 0
+takes "explore: a few boards in a shard" "$work/many" $examples/lost_update.cfg --events 1000 --preemptions 2 \
+    --shard 1/400
 how=(--memory 0)
 
 # ---- Without bounds: a program that is right within them is right, and what is found within them is found.

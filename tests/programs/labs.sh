@@ -256,8 +256,8 @@ the repair should be by ll and sc, on both processors: on processor 2 no sc has 
 with 5 seats the seller on processor 1 should sell some: it tries twice, and of its stores 1 take one away
 a schedule of lab.s fails: fails after 64 events: the console is "4", not "3"
     event 0  processor 1 goes on at seller
-    event 13  processor 1 stops before sw $t0, 128($s0) at try+0xc; processor 2 goes on at seller
-    event 39  processor 1 goes on at try+0xc
+    event 3  processor 1 stops before beq $t0, $zero, 0x8000001c at try+0x4; processor 2 goes on at seller
+    event 29  processor 1 goes on at try+0x4
 END
 solved 3
 edited '/^( *)beqz( *)\$t0, try$/d'
@@ -359,19 +359,19 @@ looked "the beginning" 5 1 << 'END'
 with ticks at events 29 and 36 it should write Zc, and writes 'cZ'
 with ticks at events 30 and 42 it should write Zc, and writes 'cZ'
 with ticks at events 36 and 40 it should write Zc, and writes 'cZ'
-a schedule of lab.s fails: fails after 109 events: the console is "c", not "Zc"
+a schedule of lab.s fails: fails after 64 events: the console is "c", not "Zc"
     event 0  processor 1 goes on at high
-    event 54  a tick
-    event 58  a tick
+    event 9  a tick
+    event 10  a tick
 END
 begun 5
 edited 's/^low: (.*)/low:    addiu   $a0, $0, bus\n        addiu   $v0, $0, wai_sem\n        syscall\n        addiu   $a0, $0, 0\n        addiu   $a1, $0, 1\n        addiu   $v0, $0, chg_pri\n        syscall\n        b       had\n        nop\n        \1/'
 edited '/^had:/!{/^low:/,/^use:/s/^        lui     \$s0, %hi\(given\)/had:&/; s/^had:        /had:    /}'
 looked "as urgent as high, but only once it has the bus" 5 1 << 'END'
-a schedule of lab.s fails: fails after 67 events: the console is "c", not "Zc"
+a schedule of lab.s fails: fails after 64 events: the console is "c", not "Zc"
     event 0  processor 1 goes on at high
-    event 12  a tick
-    event 16  a tick
+    event 9  a tick
+    event 10  a tick
 END
 solved 5
 edited '/^high:/,/^middle:/{/addiu   \$a0, \$0, bus/,/syscall/d}'
