@@ -5,13 +5,14 @@ use Rattle.std.proofs.lemmas.Bool.Decides.{nat_tests}
 use Rattle.std.proofs.lemmas.Grind.{get_or-set_at}
 use Rattle.std.proofs.lemmas.List.{get_or-set_other, length-set}
 use Rattle.std.proofs.Math.ListN.{get_or-eq_default}
+use Rattle.brd_exec.specs.State.{State}
 use Rattle.brd_queue.specs.Queue.{Plain, has, priority_in, behind_equals, without, rotated}
 use Rattle.brd_queue.specs.Rule.{IsByPriority}
 use Rattle.brd_queue.proofs.PriorityLemmas.{priority_in-without, priority_in-behind_equals, has-priority_in, ordered-rotated}
 use Rattle.brd_queue.proofs.RuleLemmas.{ordered-behind_equals, ordered-without}
 use Rattle.brd_tasks.specs.declared.task.Task.{Task}
 use Rattle.brd_tasks.specs.Status.{is_ready}
-use Rattle.brd_tasks.specs.Tasks.{TaskTable, task_at, ready_on, left, entered, placed, patched, first_id, top_of}
+use Rattle.brd_tasks.specs.Tasks.{TaskTable, task_at, ready_on, left, entered, placed, patched, with_context, first_id, top_of}
 use Rattle.brd_tasks.specs.Ready.{IsTask, IsRow, ready_priority, IsConsistent}
 
 abbrev at : List (List Plain) → ℕ → List Plain
@@ -122,6 +123,28 @@ assigned-set : (same : Bool) (t : TaskTable) (id : ℕ) (task : Task) (k : ℕ) 
 assigned-set same t id task k test was small assigned =
     grind (arith, nat_tests, test, task_at-set t k id task, small, was.rows, was.each k, assigned)
 
+-- who is there after a row was written anew was there before
+there-before : (same : Bool) (t : TaskTable) (id : ℕ) (task : Task) (k : ℕ) → (id == k) ≡ same → IsConsistent t → id < 256 → IsSome (task_at t id) →
+    IsSome (slice_index_or (slice_set t.rows id (Some task)) k None) → IsSome (task_at t k)
+there-before true t id task k test was small there now =
+    let same : id ≡ k = grind (arith, nat_tests, test) in
+    subst (λ n. IsSome (task_at t n)) same there
+there-before false t id task k test was small there now =
+    let is : slice_index_or (slice_set t.rows id (Some task)) k None ≡ task_at t k =
+    task_at-set t k id task (omega (arith, was.rows, small)) ∙ ap (λ x. if x then Some task else task_at t k) test in
+    subst IsSome is now
+
+pub consistent-context : (t : TaskTable) (id : ℕ) (s : State) → IsConsistent t → IsConsistent (with_context t id s)
+consistent-context t id s was = record {
+  rows = was.rows;
+  contexts = λ k there. subst (λ n. k < n) (sym (length-set t.contexts id s)) (was.contexts k there);
+  lists = was.lists;
+  nobody = was.nobody;
+  each = was.each;
+  listed = was.listed;
+  ordered = was.ordered;
+}
+
 nobody-by : (zero : Bool) (t : TaskTable) (id : ℕ) (task : Task) → (id == 0) ≡ zero → IsConsistent t → id < 256 → IsSome (task_at t id) →
     slice_index_or (slice_set t.rows id (Some task)) 0 None ≡ None
 nobody-by true t id task test was small there =
@@ -136,7 +159,7 @@ consistent-placed t id task was small there assigned =
     let long : length (left id (task_at t id) t.ready) ≡ 9 = left-length id (task_at t id) t.ready ∙ was.lists in
     record {
       rows = length-set t.rows id (Some task) ∙ was.rows;
-      contexts = was.contexts;
+      contexts = λ k now. was.contexts k (there-before (id == k) t id task k refl was small there now);
       lists = entered-length id task (left id (task_at t id) t.ready) ∙ long;
       nobody = nobody-by (id == 0) t id task refl was small there;
       each = λ k. assigned-set (id == k) t id task k refl was small assigned;
@@ -155,7 +178,7 @@ pub consistent-patched : (t : TaskTable) (id : ℕ) (task : Task) → IsConsiste
 consistent-patched t id task was small there assigned as_was = record {
   nobody = nobody-by (id == 0) t id task refl was small there;
   rows = length-set t.rows id (Some task) ∙ was.rows;
-  contexts = was.contexts;
+  contexts = λ k now. was.contexts k (there-before (id == k) t id task k refl was small there now);
   lists = was.lists;
   each = λ k. assigned-set (id == k) t id task k refl was small assigned;
   listed = λ k cpu. listed-patched (id == k) t id task k cpu refl was small (as_was cpu);

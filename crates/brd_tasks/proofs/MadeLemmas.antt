@@ -1,8 +1,9 @@
 -- The tasks at the making: by one ID more, and that they are consistent.
 use Rattle.std.proofs.Common.{◌≡◌, ◌≤◌, ◌<◌, ℕ, ◌+◌, List, [], ◌∷◌, ◌++◌, refl, sym, ap, subst, ◌∙◌, length, arith}
-use Rattle.std.specs.Prelude.{Bool, true, false, ◌==◌, nat_lt, if◌then◌else◌, Option, None, Some, All, find, replicate, slice_index_or}
+use Rattle.std.specs.Prelude.{Bool, true, false, ◌==◌, nat_lt, if◌then◌else◌, max, Option, None, Some, IsSome, All, find, replicate, slice_index_or}
 use Rattle.std.specs.Option.{option_map}
 use Rattle.std.proofs.lemmas.List.FromFn.{map-range_with_len_more, length-map-range_with_len, get_or-map-range_with_len}
+use Rattle.std.proofs.lemmas.Bool.{false≢true}
 use Rattle.std.proofs.Math.ListN.{get_or-eq_default}
 use Rattle.std.proofs.lemmas.Bool.Decides.{nat_tests}
 use Rattle.std.proofs.lemmas.List.{get_or-replicate, length-replicate}
@@ -12,7 +13,7 @@ use Rattle.brd_queue.specs.Queue.{Plain, priority_in}
 use Rattle.brd_queue.specs.Rule.{IsByPriority}
 use Rattle.brd_tasks.specs.declared.task.TaskSetup.{TaskSetup}
 use Rattle.brd_tasks.specs.declared.task.Task.{Task}
-use Rattle.brd_tasks.specs.Tasks.{unstarted, first_row, first_context, first_rows, first_contexts, made}
+use Rattle.brd_tasks.specs.Tasks.{unstarted, first_row, first_context, first_rows, first_contexts, ids_of, made}
 use Rattle.brd_tasks.specs.Ready.{IsSetup, IsRow, ready_priority, IsConsistent}
 
 pub no_rows : (setups : List TaskSetup) → first_rows setups 0 ≡ []
@@ -80,10 +81,28 @@ nobody-found (setup ∷ setups) all =
     let first : IsSetup setup = All-get_or IsSetup (setup ∷ setups) 0 setup (omega arith) all in
     grind (arith, nat_tests, first.0, nobody-found setups (All-tail IsSetup setup setups all))
 
+-- a task has an ID below their number
+small-by : (same : Bool) (id : ℕ) (setup : TaskSetup) (setups : List TaskSetup) → (setup.id == id) ≡ same →
+    (IsSome (first_row setups id) → id < ids_of setups) →
+    IsSome (option_map unstarted (if same then Some setup else find (λ s. s.id == id) setups)) → id < max (setup.id + 1) (ids_of setups)
+small-by true id setup setups test rest some =
+    let same : setup.id ≡ id = grind (arith, nat_tests, test) in
+    omega (arith, same)
+small-by false id setup setups test rest some = omega (arith, rest some)
+
+first-small : (id : ℕ) (setups : List TaskSetup) → IsSome (first_row setups id) → id < ids_of setups
+first-small id [] some = absurd (false≢true some)
+first-small id (setup ∷ setups) some = small-by (setup.id == id) id setup setups refl (first-small id setups) some
+
 pub made-consistent : (setups : List TaskSetup) → All IsSetup setups → IsConsistent (made setups)
 made-consistent setups all = record {
   rows = rows-length setups 256;
-  contexts = contexts-length setups 256;
+  contexts = λ id there. omega (
+    arith,
+    contexts-length setups (ids_of setups),
+    first-small id setups
+        (row-at (nat_lt id 256) setups 256 id refl (λ row. IsSome row → IsSome (first_row setups id)) (λ none. absurd (false≢true none)) (λ some. some) there),
+  );
   lists = refl;
   nobody = row-at true setups 256 0 refl (λ row. row ≡ None) refl (nobody-found setups all);
   each = λ id. row-at (nat_lt id 256) setups 256 id refl IsRow tt (assigned-new id setups all);
@@ -93,9 +112,9 @@ made-consistent setups all = record {
 
 -- the same of what a function has made part by part
 pub made-consistent-as : (setups : List TaskSetup) (rows : List (Option Task)) (contexts : List State) (ready : List (List Plain)) →
-    rows ≡ first_rows setups 256 → contexts ≡ first_contexts setups 256 → ready ≡ replicate 9 [] → All IsSetup setups →
+    rows ≡ first_rows setups 256 → contexts ≡ first_contexts setups (ids_of setups) → ready ≡ replicate 9 [] → All IsSetup setups →
     IsConsistent (record { rows = rows; contexts = contexts; ready = ready })
 made-consistent-as setups rows contexts ready rows_are contexts_are ready_is all =
     subst (λ r. IsConsistent (record { rows = r; contexts = contexts; ready = ready })) (sym rows_are)
     (subst (λ c. IsConsistent (record { rows = first_rows setups 256; contexts = c; ready = ready })) (sym contexts_are)
-    (subst (λ l. IsConsistent (record { rows = first_rows setups 256; contexts = first_contexts setups 256; ready = l })) (sym ready_is) (made-consistent setups all)))
+    (subst (λ l. IsConsistent (record { rows = first_rows setups 256; contexts = first_contexts setups (ids_of setups); ready = l })) (sym ready_is) (made-consistent setups all)))

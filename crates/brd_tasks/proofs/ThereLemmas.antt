@@ -1,6 +1,6 @@
 -- Which tasks are there.
-use Rattle.std.proofs.Common.{◌≡◌, ◌<◌, ℕ, List, [], ◌∷◌, map, refl, sym, ap, ◌∙◌, arith}
-use Rattle.std.specs.Prelude.{true, false, Option, None, Some, IsSome, IfSome, is_some, slice_index_or, slice_set}
+use Rattle.std.proofs.Common.{◌≡◌, ◌<◌, ℕ, List, [], ◌∷◌, length, map, refl, sym, ap, ◌∙◌, arith}
+use Rattle.std.specs.Prelude.{Bool, true, false, Option, None, Some, IsSome, IfSome, is_some, slice_index_or, slice_set}
 use Rattle.std.proofs.lemmas.Bool.Decides.{nat_tests}
 use Rattle.std.proofs.Math.ListN.{get_or-map}
 use Rattle.std.proofs.Math.Seq.{map-set_same}
@@ -22,6 +22,13 @@ there-small t id was there = known_small t id (task_at t id) was refl there
 -- whether there is a task of an ID
 pub there-is : (t : TaskTable) (id : ℕ) → slice_index_or (are_there t) id false ≡ is_some (task_at t id)
 there-is t id = get_or-map is_some t.rows id None
+
+there-still : (old new : TaskTable) (id : ℕ) → are_there new ≡ are_there old → IsSome (task_at old id) → IsSome (task_at new id)
+there-still old new id same there = sym (there-is new id) ∙ ap (λ (are : List Bool). slice_index_or are id false) same ∙ there-is old id ∙ there
+
+-- a task that was there has a context
+pub has-context : (old new : TaskTable) (id : ℕ) → IsConsistent new → are_there new ≡ are_there old → IsSome (task_at old id) → id < length new.contexts
+has-context old new id was same there = was.contexts id (there-still old new id same there)
 
 -- who stands first in a ready list is a task
 

@@ -1,5 +1,5 @@
 -- What is always true of the tasks.
-use Rattle.std.specs.Prelude.{◌≡◌, ◌≤◌, ℕ, ◌==◌, true, false, ◌&&◌, if◌then◌else◌, Option, None, Some, length}
+use Rattle.std.specs.Prelude.{◌≡◌, ◌<◌, ◌≤◌, ℕ, ◌==◌, true, false, ◌&&◌, if◌then◌else◌, Option, None, Some, IsSome, length}
 use Rattle.brd_queue.specs.Queue.{priority_in}
 use Rattle.brd_queue.specs.Rule.{IsByPriority}
 use Rattle.brd_tasks.specs.declared.task.Request.{Request}
@@ -41,10 +41,11 @@ ready_priority None cpu = None
 ready_priority (Some task) cpu = if is_ready task.status && task.cpu == cpu then Some task.priority else None
 
 -- A task is in the ready list of its processor exactly where it is ready, with its priority, and in no other; that it
--- stands there once is kept by each queue. The ready lists are in the order of priority. There is no task 0.
+-- stands there once is kept by each queue. The ready lists are in the order of priority. There is no task 0. Each task
+-- has a context.
 pub record IsConsistent (t : TaskTable) : Type 0 where
   pub rows : length t.rows ≡ 256
-  pub contexts : length t.contexts ≡ 256
+  pub contexts : (id : ℕ) → IsSome (task_at t id) → id < length t.contexts
   pub lists : length t.ready ≡ 9
   pub nobody : task_at t 0 ≡ None
   pub each : (id : ℕ) → IsRow (task_at t id)

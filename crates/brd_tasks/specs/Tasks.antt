@@ -1,5 +1,5 @@
 -- The tasks, and what each of the kernel's operations makes of them.
-use Rattle.std.specs.Prelude.{ℕ, Bool, false, not, ◌&&◌, if◌then◌else◌, List, [], map, replicate, find, ◌==◌}
+use Rattle.std.specs.Prelude.{ℕ, ◌+◌, max, Bool, false, not, ◌&&◌, if◌then◌else◌, List, [], ◌∷◌, map, replicate, find, ◌==◌}
 use Rattle.std.specs.Prelude.{slice_index_or, slice_set, Option, None, Some, is_some, unwrap_or}
 use Rattle.std.specs.List.{range_with_len}
 use Rattle.std.specs.Option.{option_map}
@@ -17,7 +17,7 @@ use Rattle.brd_tasks.specs.Status.{state_of, waiting_of, is_dormant, is_ready, r
 -- Tasks and contexts are found by the task's ID, ready lists by the processor's number; nothing stands at 0.
 pub record TaskTable : Type 0 where
   pub rows : List (Option Task)  -- 256 of them
-  pub contexts : List State  -- 256 of them
+  pub contexts : List State  -- one for each ID up to the highest that a task has
   pub ready : List (List Plain)  -- 9 of them: the ready tasks of each processor, in the order in which they run
 
 -- the task of an ID, where there is one
@@ -91,9 +91,18 @@ first_rows setups count = map (first_row setups) (range_with_len 0 count)
 unfoldable pub first_contexts : List TaskSetup → ℕ → List State
 first_contexts setups count = map (first_context setups) (range_with_len 0 count)
 
+-- how many IDs there are up to the highest of some setups, with 0
+abbrev pub ids_of : List TaskSetup → ℕ
+ids_of [] = 0
+ids_of (setup ∷ setups) = max (setup.id + 1) (ids_of setups)
+
 -- the tasks at the making: none has been started
 abbrev pub made : List TaskSetup → TaskTable
-made setups = record { rows = first_rows setups 256; contexts = first_contexts setups 256; ready = replicate 9 [] }
+made setups = record {
+  rows = first_rows setups 256;
+  contexts = first_contexts setups (ids_of setups);
+  ready = replicate 9 [];
+}
 
 -- the ready lists without a task that was ready
 abbrev pub left : ℕ → Option Task → List (List Plain) → List (List Plain)

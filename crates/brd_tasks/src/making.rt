@@ -1,8 +1,8 @@
 //! The tasks as they are at the making.
 
-ghost use Rattle.std.specs.Prelude.{◌≡◌, ◌↔◌, ◌==◌, All, IfOk, IsTrue, find};
+ghost use Rattle.std.specs.Prelude.{◌≡◌, ◌≤◌, ◌↔◌, ◌==◌, All, IfOk, IsTrue, find};
 ghost use Rattle.brd_tasks.specs.Ready.{IsSetup};
-ghost use Rattle.brd_tasks.specs.Tasks.{first_row, first_context, first_rows, first_contexts};
+ghost use Rattle.brd_tasks.specs.Tasks.{first_row, first_context, first_rows, first_contexts, ids_of};
 
 use crate::status::TaskId;
 use crate::task::{Task, TaskSetup};
@@ -36,16 +36,28 @@ pub fn rows_of(alloc: Global, setups: &[TaskSetup]) -> Result<Vec<Option<Task>>,
     Ok(rows)
 }
 
-/// The context of each ID.
+/// The context of each ID up to the highest.
 #[tactic(auto, using(crate::proofs::MadeLemmas::contexts_more, crate::proofs::MadeLemmas::no_contexts))]
 pub fn contexts_of(alloc: Global, setups: &[TaskSetup]) -> Result<Vec<Context>, NoMemory>
-    ensures { IfOk result (λ contexts. contexts.items ≡ first_contexts setups.now 256) }
+    ensures { IfOk result (λ contexts. contexts.items ≡ first_contexts setups.now (ids_of setups.now)) }
 {
     let mut contexts = Vec::new(alloc);
-    for id in 0..256u16 {
-        contexts.push(context_of(setups, id))?;
+    for id in 0..ids_of(setups) {
+        contexts.push(context_of(setups, id as u16))?;
     }
     Ok(contexts)
+}
+
+/// How many IDs there are up to the highest of these, with 0.
+fn ids_of(setups: &[TaskSetup]) -> u32
+    ensures is { result ≡ ids_of setups.now }
+    ensures few { result ≤ 65536 }
+{
+    let mut count = 0u32;
+    for setup in setups {
+        count = count.max(u32::from(setup.id) + 1);
+    }
+    count
 }
 
 /// The task of an ID before its first start.

@@ -322,9 +322,9 @@ impl Tasks {
         self.contexts[id as usize] = context;
     }
 
-    /// The context of a task.
+    /// The context of a task that is there.
     pub fn context(&self, id: TaskId) -> &Context
-        requires { id < 256 }
+        requires there { IsSome (task_at self.now id) }
         ensures { result.now ≡ context_at self.now id }
     {
         &self.contexts[id as usize]
