@@ -375,8 +375,6 @@ impl Kernel {
     pub fn context(&self, cpu: u8) -> Option<&Context>
         ensures { option_copied result ≡ context_on self.now cpu }
     {
-        // For the proof alone: what is always true of tasks.
-        self.common.tasks.are_consistent();
         match self.executor(cpu)? {
             Executor::Handler => Some(&self.common.handler_contexts[cpu as usize]),
             Executor::Task(id) => Some(self.common.tasks.context(id)),

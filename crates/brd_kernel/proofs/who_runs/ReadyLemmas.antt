@@ -2,7 +2,6 @@
 use Rattle.std.proofs.Common.{◌≡◌, ◌<◌, ℕ, zero, suc, List, [], ◌∷◌, refl, sym, ap, subst, ◌∙◌}
 use Rattle.std.specs.Prelude.{Bool, true, false, not, ◌==◌, ◌&&◌, find, unwrap_or, if◌then◌else◌, Option, None, Some, IsSome, slice_index_or, slice_set}
 use Rattle.std.proofs.lemmas.Bool.{false≢true}
-use Rattle.std.proofs.lemmas.List.{length-set}
 use Rattle.brd_exec.specs.State.{State}
 use Rattle.brd_queue.specs.Queue.{Plain, has, behind_equals, without, moved_behind, rotated, AreApart}
 use Rattle.brd_queue.specs.declared.entry.QueueOrder.TheVariants.{Priority}
@@ -17,7 +16,7 @@ use Rattle.brd_tasks.specs.declared.task.Request.TheVariants.{Assigned, On}
 use Rattle.brd_tasks.specs.Status.{is_dormant, is_ready, blocked, released, suspended, resumed}
 use Rattle.brd_tasks.specs.Tasks.{TaskTable, task_at, ready_on, left, started, opening_of, processor_of, starts, placed, patched, with_context, where_there, activated, ended_by, ended, put_into, through, answered, context_at, released_to, released_with, changed, on_processor, noted, with_wakeup, without_activation, turned}
 use Rattle.brd_tasks.specs.Ready.{IsProcessor, IsRequest, IsQueued, IsTask, IsRow, ready_priority}
-use Rattle.brd_tasks.proofs.Consistency.{known_small, left-new, consistent-placed, consistent-patched, consistent-turned}
+use Rattle.brd_tasks.proofs.Consistency.{known_small, left-new, consistent-context, consistent-placed, consistent-patched, consistent-turned}
 use Rattle.brd_kernel.specs.Running.{is_ready_on, IsOrderly}
 use Rattle.brd_kernel.proofs.who_waits.ListLemmas.{written-at, same-number, apart-placed}
 use Rattle.brd_kernel.proofs.PricedLemmas.{priced}
@@ -124,15 +123,7 @@ patch t id task other was there good same = record {
 
 pub context-orderly : (t : TaskTable) (id : ℕ) (s : State) → IsOrderly t → IsOrderly (with_context t id s)
 context-orderly t id s was = record {
-  consistent = record {
-    rows = was.consistent.rows;
-    contexts = length-set t.contexts id s ∙ was.consistent.contexts;
-    lists = was.consistent.lists;
-    nobody = was.consistent.nobody;
-    each = was.consistent.each;
-    listed = was.consistent.listed;
-    ordered = was.consistent.ordered;
-  };
+  consistent = consistent-context t id s was.consistent;
   once = was.once;
 }
 

@@ -1,5 +1,4 @@
 use Rattle.std.proofs.Common.{sym, subst}
-use Rattle.brd_tasks.proofs.ThereLemmas.{there-small}
 use Rattle.brd_kernel.specs.declared.processor.Executor.{Executor}
 use Rattle.brd_kernel.specs.declared.processor.Executor.TheVariants as executor
 use Rattle.brd_kernel.specs.Kernel.{KernelState}
@@ -10,5 +9,4 @@ pub context-requires : goal.context-requires
 context-requires c =
     let there : HasContext c.args.self.now c.args.cpu (executor.Task c.in-Task.id) =
     subst (λ (who : Executor). HasContext c.args.self.now c.args.cpu who) c.in-Task.is c.in_ok-executor.ensures.there in
-    there-small c.self.inside.common.tasks c.in-Task.id c.are_consistent.ensures
-    (subst (λ (k : KernelState). HasContext k c.args.cpu (executor.Task c.in-Task.id)) (sym c.self.view_is) there)
+    record { there = subst (λ (k : KernelState). HasContext k c.args.cpu (executor.Task c.in-Task.id)) (sym c.self.view_is) there }

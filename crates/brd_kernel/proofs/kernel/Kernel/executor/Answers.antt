@@ -1,7 +1,6 @@
 use Rattle.std.proofs.Common.{◌≡◌, ◌<◌, length, sym, subst, ap, arith}
 use Rattle.std.specs.Prelude.{Option, Some, true, IfSome}
 use Rattle.brd_tasks.specs.Tasks.{are_there}
-use Rattle.brd_tasks.proofs.ThereLemmas.{there-small}
 use Rattle.brd_kernel.specs.declared.processor.Executor.{Executor}
 use Rattle.brd_kernel.specs.declared.processor.Executor.TheVariants as executor
 use Rattle.brd_kernel.specs.Kernel.{KernelState, processor_at, executor_on}
@@ -24,8 +23,8 @@ returns-in-Some-clause-there c =
 pub returns-in-Some-clause-place : goal.returns-in-Some-clause-place
 returns-in-Some-clause-place c =
     let k : KernelState = c.args.self.now in
-    let known : c.in-Some.id < 256 =
-    there-small c.self.inside.common.tasks c.in-Some.id c.are_consistent.ensures
+    let within : c.in-Some.id < length c.self.inside.common.tasks.contexts =
+    c.are_consistent.ensures.contexts c.in-Some.id
     (subst (λ (s : KernelState). HasContext s c.args.cpu (executor.Task c.in-Some.id)) (sym c.self.view_is) (returns-in-Some-clause-there c)) in
     let count : length c.self.inside.common.tasks.contexts ≡ length k.tasks.contexts = ap (λ (s : KernelState). length s.tasks.contexts) c.self.view_is in
-    omega (arith, known, count, c.are_consistent.ensures.contexts)
+    omega (arith, within, count)
